@@ -1,0 +1,16 @@
+//! The words of the trust metric, and its definitions.
+#![tactic(auto)]
+
+mod accounts;
+mod flows;
+mod laws;
+mod levels;
+mod memory;
+
+pub use accounts::{AccountNo, Node};
+pub use flows::{FlowLine, Side};
+pub use laws::{
+    served_at_most_bound, served_at_most_entering, total_at_most_cut, total_is_root_units,
+};
+pub use levels::Level;
+pub use memory::NoMemory;
