@@ -3,12 +3,14 @@
 
 mod accounts;
 mod flows;
+mod graphs;
 mod laws;
 mod levels;
 mod memory;
 
 pub use accounts::{AccountNo, Node};
 pub use flows::{FlowLine, Side};
+pub use graphs::{Cert, CertGraph};
 pub use laws::{
     served_at_most_bound, served_at_most_entering, total_at_most_cut, total_is_root_units,
 };
