@@ -2,6 +2,7 @@
 #![tactic(auto)]
 
 mod accounts;
+mod cert_lists;
 mod flows;
 mod graphs;
 mod laws;
@@ -9,6 +10,7 @@ mod levels;
 mod memory;
 
 pub use accounts::{AccountNo, Node};
+pub use cert_lists::CertList;
 pub use flows::{FlowLine, Side};
 pub use graphs::{Cert, CertGraph};
 pub use laws::{
