@@ -1,5 +1,7 @@
-ghost use Rattle.std.specs.Prelude.{◌≡◌, ◌↔◌, IsTrue};
+ghost use Rattle.std.specs.Prelude.{◌≡◌, ◌↔◌, IsTrue, Some};
 ghost use Rattle.trust_types.specs.Levels.{IsGrade, level_name, level_of};
+
+use std::fmt;
 
 /// A level of trust, lowest first. Each but Observer is a grade.
 #[derive(Clone, Copy, Debug, PartialEq, Eq, PartialOrd, Ord, Hash)]
@@ -42,5 +44,13 @@ impl Level {
         ensures { IsTrue result ↔ IsGrade self }
     {
         self != Level::Observer
+    }
+}
+
+impl fmt::Display for Level {
+    ghost output = { λ level. Some (level_name level) };
+
+    fn fmt<W: fmt::Write>(&self, f: &mut fmt::Formatter<W>) -> fmt::Result {
+        f.pad(self.name())
     }
 }

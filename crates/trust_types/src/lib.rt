@@ -6,6 +6,7 @@ mod flows;
 mod laws;
 mod levels;
 mod memory;
+mod names;
 
 pub use accounts::{AccountNo, Node};
 pub use flows::{FlowLine, Side};
@@ -14,3 +15,4 @@ pub use laws::{
 };
 pub use levels::Level;
 pub use memory::NoMemory;
+pub use names::Name;
