@@ -3,7 +3,7 @@ use Rattle.std.proofs.Common.{ℕ, zero, suc, ◌==◌, ◌≡◌, ◌≢◌, �
 use Rattle.std.proofs.lemmas.Bool.{cases_eq}
 use Rattle.trust_types.specs.declared.levels.Level.{Level}
 use Rattle.trust_types.specs.declared.levels.Level.TheVariants.{Observer}
-use Rattle.trust_types.specs.Layout.{Rows, AreRows, accounts, degree, taker, level_of, given, standing_among, certificates}
+use Rattle.trust_types.specs.Layout.{Rows, AreRows, accounts, degree, taker, level_given, given, standing_among, certificates}
 use Rattle.trust_types.specs.Rows.{GivesEachOnce}
 
 -- the certificate looked at last is of the account, or it isn't
@@ -14,15 +14,15 @@ pick_other : (t b : ℕ) (level other : Level) → t ≢ b → (if t == b then l
 pick_other t b level other apart = grind (arith, apart)
 
 -- the standing of a taker is the level of its certificate
-standing_is : (r : Rows) (a i n : ℕ) → AreRows r → a < accounts r → n ≤ degree r a → i < n → standing_among r a (taker r a i) n ≡ level_of r a i
+standing_is : (r : Rows) (a i n : ℕ) → AreRows r → a < accounts r → n ≤ degree r a → i < n → standing_among r a (taker r a i) n ≡ level_given r a i
 standing_is r a i zero rows below within lt = absurd (omega arith)
 standing_is r a i (suc n) rows below within lt =
     elim (cases_eq i n) [
       | inl same ↦
-          let P : ℕ → Type 0 = λ k. standing_among r a (taker r a k) (suc n) ≡ level_of r a k in
-          subst P (sym same) (pick_same (taker r a n) (taker r a n) (level_of r a n) (standing_among r a (taker r a n) n) refl)
+          let P : ℕ → Type 0 = λ k. standing_among r a (taker r a k) (suc n) ≡ level_given r a k in
+          subst P (sym same) (pick_same (taker r a n) (taker r a n) (level_given r a n) (standing_among r a (taker r a n) n) refl)
       | inr other ↦
-          pick_other (taker r a n) (taker r a i) (level_of r a n) (standing_among r a (taker r a i) n) (λ same. absurd (omega (arith, rows.rises a i n below (omega arith) (omega arith))))
+          pick_other (taker r a n) (taker r a i) (level_given r a n) (standing_among r a (taker r a i) n) (λ same. absurd (omega (arith, rows.rises a i n below (omega arith) (omega arith))))
           ∙ standing_is r a i n rows below (omega arith) (omega arith)
     ]
 
@@ -33,12 +33,12 @@ standing_from r a b (suc n) some =
     elim (cases_eq (taker r a n) b) [
       | inl same ↦ (n, omega arith, same)
       | inr other ↦
-          let rest : standing_among r a b (suc n) ≡ standing_among r a b n = pick_other (taker r a n) b (level_of r a n) (standing_among r a b n) other in
+          let rest : standing_among r a b (suc n) ≡ standing_among r a b n = pick_other (taker r a n) b (level_given r a n) (standing_among r a b n) other in
           let before = standing_from r a b n (λ none. some (rest ∙ none)) in
           (before.0, omega (arith, before.1), before.2)
     ]
 
-pub standing_of_taker : (r : Rows) (a i : ℕ) → AreRows r → a < accounts r → i < degree r a → standing_among r a (taker r a i) (degree r a) ≡ level_of r a i
+pub standing_of_taker : (r : Rows) (a i : ℕ) → AreRows r → a < accounts r → i < degree r a → standing_among r a (taker r a i) (degree r a) ≡ level_given r a i
 standing_of_taker r a i rows below within = standing_is r a i (degree r a) rows below (omega arith) within
 
 pub taker_of_standing : (r : Rows) (a b : ℕ) → standing_among r a b (degree r a) ≢ Observer → (i : ℕ) × (i < degree r a) × (taker r a i ≡ b)

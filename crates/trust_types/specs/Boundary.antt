@@ -4,7 +4,8 @@ use Rattle.trust_types.specs.declared.levels.Level.{Level}
 use Rattle.trust_types.specs.declared.accounts.Node.{Node}
 use Rattle.trust_types.specs.declared.accounts.Node.TheVariants.{Root, Account}
 use Rattle.trust_types.specs.Sum.{sum_below}
-use Rattle.trust_types.specs.Graph.{Certificates, rank}
+use Rattle.trust_types.specs.Levels.{rank}
+use Rattle.trust_types.specs.Graph.{Certificates}
 use Rattle.trust_types.specs.Flow.{Flow, is_served}
 
 -- a set of accounts, as a test

@@ -1,16 +1,9 @@
 -- The graph of certificates, and the walks in it.
 use Rattle.std.specs.Prelude.{ℕ, zero, suc, Bool, ◌≡◌, ◌<◌, ◌≤◌, IsTrue}
 use Rattle.trust_types.specs.declared.levels.Level.{Level}
-use Rattle.trust_types.specs.declared.levels.Level.TheVariants.{Observer, Apprentice, Journeyer, Master}
 use Rattle.trust_types.specs.declared.accounts.Node.{Node}
 use Rattle.trust_types.specs.declared.accounts.Node.TheVariants.{Root, Account}
-
--- 0 for Observer, and one more for each level above.
-abbrev pub rank : Level → ℕ
-rank Observer = 0
-rank Apprentice = 1
-rank Journeyer = 2
-rank Master = 3
+use Rattle.trust_types.specs.Levels.{rank}
 
 -- What the metric reads of a site: how many accounts there are, which are seeds, and the level at which one stands certified by another.
 pub record Certificates : Type 0 where

@@ -8,6 +8,7 @@ mod graphs;
 mod laws;
 mod levels;
 mod memory;
+mod names;
 
 pub use accounts::{AccountNo, Node};
 pub use cert_lists::CertList;
@@ -18,3 +19,4 @@ pub use laws::{
 };
 pub use levels::Level;
 pub use memory::NoMemory;
+pub use names::Name;
