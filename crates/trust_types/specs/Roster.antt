@@ -16,8 +16,12 @@ pub record IsGreatest (g : Certificates) (level : Level) (cap : Node → ℕ) (f
 abbrev pub ServesConduits : ℕ → Flow → Type 0
 ServesConduits n f = (x : ℕ) → x < n → 0 < units_out n f (Account x) → IsServed n f x
 
+-- these are the accounts that the flow serves
+abbrev pub Serves : ℕ → Flow → List ℕ → Type 0
+Serves n f accepted = (x : ℕ) → (((x < n) × IsServed n f x) ↔ Contains accepted x)
+
 -- a greatest flow with served conduits serves exactly these accounts
 abbrev pub IsRoster : Certificates → Level → List ℕ → List ℕ → Type 0
 IsRoster g level table accepted =
     (cap : Node → ℕ) × (f : Flow) × AreCapacities g level table cap × IsGreatest g level cap f × ServesConduits g.accounts f
-    × ((x : ℕ) → (((x < g.accounts) × IsServed g.accounts f x) ↔ Contains accepted x))
+    × Serves g.accounts f accepted
