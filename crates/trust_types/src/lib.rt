@@ -12,6 +12,7 @@ mod names;
 mod records;
 mod steps;
 mod texts;
+mod tables;
 
 pub use accounts::{AccountNo, Node};
 pub use cert_lists::CertList;
@@ -27,3 +28,4 @@ pub use names::Name;
 pub use records::{Record, Secret};
 pub use steps::Steps;
 pub use texts::Text;
+pub use tables::{Caps, CapsFault};
