@@ -1,0 +1,53 @@
+//! The calls of an object in memory.
+ghost use Rattle.std.specs.Prelude.{◌≡◌, ◌↔◌, ◌⊎◌, true, false, IsErr, OnOk, OnErr};
+ghost use Rattle.outside.specs.Calls.{IsToFail, no_calls, with_served, with_failed};
+ghost use Rattle.outside.specs.Causes.{HasCause};
+
+use crate::failed::Failed;
+use std::marker::Model;
+
+/// The calls of one object in memory, numbered together from 0, some of which are to fail.
+#[derive(Drop)]
+pub struct Calls {
+    fails: Vec<u64>,
+    made: u64,
+    faults: u64,
+}
+
+impl Model for Calls {
+    ghost use Rattle.outside.specs.Calls.{Calls};
+
+    ghost Value = { Calls };
+
+    ghost view = { λ s. record { fails = s.fails.items; made = s.made; faults = s.faults } };
+}
+
+impl Calls {
+    /// No call yet. Those with a number in `fails` are to fail.
+    pub fn new(fails: Vec<u64>) -> Calls
+        ensures { result ≡ no_calls fails.items }
+    {
+        Calls {
+            fails,
+            made: 0,
+            faults: 0,
+        }
+    }
+
+    /// Counts the next call. `Failed` comes exactly where it is to fail or can't be served.
+    pub fn count(&mut self, can_serve: bool) -> Result<(), Failed>
+        ensures fails { IsErr result ↔ (IsToFail self.old ⊎ (can_serve ≡ false)) }
+        ensures can { OnOk result (can_serve ≡ true) }
+        ensures served { OnOk result (self.new ≡ with_served self.old) }
+        ensures failed { OnErr result (self.new ≡ with_failed self.old) }
+        ensures cause { HasCause self.old.faults self.new.faults result }
+    {
+        let is_to_fail = self.fails.contains(&self.made);
+        self.made = self.made.saturating_add(1);
+        if is_to_fail || !can_serve {
+            self.faults = self.faults.saturating_add(1);
+            return Err(Failed);
+        }
+        Ok(())
+    }
+}
