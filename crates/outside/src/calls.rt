@@ -1,5 +1,5 @@
 //! The calls of an object in memory.
-ghost use Rattle.std.specs.Prelude.{◌≡◌, ◌↔◌, ◌⊎◌, true, false, IsErr, OnOk, OnErr};
+ghost use Rattle.std.specs.Prelude.{◌≡◌, ◌↔◌, ◌⊎◌, true, false, is_err, IsErr, OnOk, OnErr};
 ghost use Rattle.outside.specs.Calls.{IsToFail, no_calls, with_served, with_failed};
 ghost use Rattle.outside.specs.Causes.{HasCause};
 
@@ -40,7 +40,7 @@ impl Calls {
         ensures can { OnOk result (can_serve ≡ true) }
         ensures served { OnOk result (self.new ≡ with_served self.old) }
         ensures failed { OnErr result (self.new ≡ with_failed self.old) }
-        ensures cause { HasCause self.old.faults self.new.faults result }
+        ensures cause { HasCause self.old.faults self.new.faults (is_err result) }
     {
         let is_to_fail = self.fails.contains(&self.made);
         self.made = self.made.saturating_add(1);

@@ -1,4 +1,4 @@
-ghost use Rattle.std.specs.Prelude.{◌≡◌, ◌↔◌, ◌⊎◌, ◌-◌, ◌<◌, ◌≤◌, [], ◌++◌, min, Some, length, take, IsErr, IfOk, OnErr};
+ghost use Rattle.std.specs.Prelude.{◌≡◌, ◌↔◌, ◌⊎◌, ◌-◌, ◌<◌, ◌≤◌, [], ◌++◌, min, Some, length, take, is_err, IsErr, IfOk, OnErr};
 ghost use Rattle.outside.specs.Bytes.{AppendsBytes};
 ghost use Rattle.outside.specs.Calls.{IsToFail, no_calls, with_served, with_failed};
 ghost use Rattle.outside.specs.Causes.{HasCause};
@@ -72,7 +72,7 @@ impl Sink for MemSink {
         // What each sink does.
         ensures bound { IfOk result (λ n. (0 < n) × (n ≤ length piece.now)) }
         ensures bytes { AppendsBytes (Some self.old.held) (Some self.new.held) result piece.now }
-        ensures cause { HasCause self.old.calls.faults self.new.calls.faults result }
+        ensures cause { HasCause self.old.calls.faults self.new.calls.faults (is_err result) }
 
         // What this one does.
         ensures fails { IsErr result ↔ (IsToFail self.old.calls ⊎ (self.old.room ≡ 0)) }

@@ -1,4 +1,4 @@
-ghost use Rattle.std.specs.Prelude.{◌≡◌, ◌↔◌, ◌==◌, ◌<◌, ◌≤◌, if◌then◌else◌, min, Some, length, take, drop, IsErr, IfOk, OnErr};
+ghost use Rattle.std.specs.Prelude.{◌≡◌, ◌↔◌, ◌==◌, ◌<◌, ◌≤◌, if◌then◌else◌, min, Some, length, take, drop, is_err, IsErr, IfOk, OnErr};
 ghost use Rattle.std.specs.Io.KnownBytes.{IsAtEnd};
 ghost use Rattle.outside.specs.Bytes.{TakesBytes, CountsEnds};
 ghost use Rattle.outside.specs.Calls.{IsToFail, no_calls, with_served, with_failed};
@@ -63,7 +63,7 @@ impl Source for MemSource {
         ensures bytes { TakesBytes (Some self.old.left) (Some self.new.left) result into.new }
         ensures end { IfOk result (λ n. n ≡ 0 → IsAtEnd (Some self.new.left)) }
         ensures ends { CountsEnds self.old.ends self.new.ends result }
-        ensures cause { HasCause self.old.calls.faults self.new.calls.faults result }
+        ensures cause { HasCause self.old.calls.faults self.new.calls.faults (is_err result) }
 
         // What this one does.
         ensures fails { IsErr result ↔ IsToFail self.old.calls }

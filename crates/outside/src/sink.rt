@@ -1,4 +1,4 @@
-ghost use Rattle.std.specs.Prelude.{◌<◌, ◌≤◌, ℕ, List, Option, length, IfOk};
+ghost use Rattle.std.specs.Prelude.{◌<◌, ◌≤◌, ℕ, List, Option, length, is_err, IfOk};
 ghost use Rattle.outside.specs.Bytes.{AppendsBytes};
 ghost use Rattle.outside.specs.Causes.{HasCause};
 
@@ -18,5 +18,5 @@ pub trait Sink: Drop {
         requires { 0 < length piece.now }
         ensures bound { IfOk result (λ n. (0 < n) × (n ≤ length piece.now)) }
         ensures bytes { AppendsBytes (held self.old) (held self.new) result piece.now }
-        ensures cause { HasCause (faults self.old) (faults self.new) result };
+        ensures cause { HasCause (faults self.old) (faults self.new) (is_err result) };
 }

@@ -1,4 +1,4 @@
-ghost use Rattle.std.specs.Prelude.{◌≡◌, ◌<◌, ◌≤◌, ℕ, List, Option, length, IfOk};
+ghost use Rattle.std.specs.Prelude.{◌≡◌, ◌<◌, ◌≤◌, ℕ, List, Option, length, is_err, IfOk};
 ghost use Rattle.std.specs.Io.KnownBytes.{IsAtEnd};
 ghost use Rattle.outside.specs.Bytes.{TakesBytes, CountsEnds};
 ghost use Rattle.outside.specs.Causes.{HasCause};
@@ -25,5 +25,5 @@ pub trait Source: Drop {
         ensures bytes { TakesBytes (left self.old) (left self.new) result into.new }
         ensures end { IfOk result (λ n. n ≡ 0 → IsAtEnd (left self.new)) }
         ensures ends { CountsEnds (ends self.old) (ends self.new) result }
-        ensures cause { HasCause (faults self.old) (faults self.new) result };
+        ensures cause { HasCause (faults self.old) (faults self.new) (is_err result) };
 }
