@@ -5,6 +5,7 @@ ghost use Rattle.outside.specs.Calls.{IsToFail, no_calls, with_served, with_fail
 ghost use Rattle.outside.specs.Causes.{HasCause, one_more};
 
 use crate::calls::Calls;
+use crate::counts::Count;
 use crate::failed::Failed;
 use crate::source::Source;
 use std::marker::Model;
@@ -16,7 +17,7 @@ pub struct MemSource {
     at: usize,
     piece: usize,
     calls: Calls,
-    ends: u64,
+    ends: Count,
 }
 
 impl Model for MemSource {
@@ -42,7 +43,7 @@ impl MemSource {
             at: 0,
             piece,
             calls: Calls::new(fails),
-            ends: 0,
+            ends: Count::zero(),
         }
     }
 }
@@ -82,7 +83,7 @@ impl Source for MemSource {
         into[..n].copy_from_slice(&rest[..n]);
         self.at += n;
         if n == 0 {
-            self.ends = self.ends.saturating_add(1);
+            self.ends.rise();
         }
         Ok(n)
     }
