@@ -11,8 +11,8 @@ mod memory;
 mod names;
 mod records;
 mod steps;
-mod texts;
 mod tables;
+mod texts;
 
 pub use accounts::{AccountNo, Node};
 pub use cert_lists::CertList;
@@ -27,5 +27,5 @@ pub use memory::NoMemory;
 pub use names::Name;
 pub use records::{Record, Secret};
 pub use steps::Steps;
-pub use texts::Text;
 pub use tables::{Caps, CapsFault};
+pub use texts::Text;
