@@ -153,3 +153,38 @@ impl Hash for Name {
         self.bytes().hash(state);
     }
 }
+
+#[cfg(test)]
+mod tests {
+    use super::*;
+    use std::test::Fail;
+
+    #[test]
+    fn reads_its_form_and_no_other(rt: HostRuntime) -> Result<(), Fail> {
+        for (word, is_one) in [
+            ("raph", true),
+            ("x", true),
+            ("a9z0", true),
+            ("aaaaaaaaaaaaaaaaaaaa", true),
+            ("aaaaaaaaaaaaaaaaaaaaa", false),
+            ("", false),
+            ("9lives", false),
+            ("Raph", false),
+            ("raPh", false),
+            ("ra-ph", false),
+            ("raph ", false),
+            ("`", false),
+            ("a{", false),
+        ] {
+            match Name::read(word.as_bytes()) {
+                Some(name) => assert!(rt; is_one && name.as_str() == word, "at {word}"),
+                None => assert!(rt; !is_one, "at {word}"),
+            }
+        }
+        let short = Name::read(b"ab").expect(&rt, "a name");
+        let long = Name::read(b"ab0").expect(&rt, "a name");
+        assert!(rt; short < long && short != long);
+        assert_eq!(rt; long.to_string(rt.alloc())?.as_str(), "ab0");
+        Ok(())
+    }
+}
