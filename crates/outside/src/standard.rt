@@ -136,3 +136,25 @@ fn write_and_flush<W: Write>(writer: &mut W, piece: &[u8]) -> io::Result<usize>
     }
     Err(ErrorKind::Interrupted.into())
 }
+
+// What the machine gives and takes is not known here. The answer and the counts agree, whatever it is.
+#[cfg(test)]
+mod tests {
+    use super::*;
+    use crate::writing::write_all;
+
+    #[test]
+    fn the_standard_input_counts_its_answers(rt: HostRuntime) {
+        let mut source = StdSource::new(&rt);
+        let answer = source.read(&mut [0; 16]);
+        assert_eq!(rt; source.faults.value(), u64::from(answer.is_err()));
+        assert_eq!(rt; source.ends.value(), u64::from(answer == Ok(0)));
+    }
+
+    #[test]
+    fn the_standard_output_counts_its_faults(rt: HostRuntime) {
+        let mut sink = StdSink::new(&rt);
+        let answer = write_all(&mut sink, b"a line of a test\n");
+        assert_eq!(rt; sink.faults.value(), u64::from(answer.is_err()));
+    }
+}
