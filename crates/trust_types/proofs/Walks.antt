@@ -5,7 +5,8 @@ use Rattle.trust_types.specs.declared.levels.Level.TheVariants.{Observer, Appren
 use Rattle.trust_types.specs.declared.accounts.Node.{Node}
 use Rattle.trust_types.specs.declared.accounts.Node.TheVariants.{Root, Account}
 use Rattle.trust_types.specs.declared.graphs.Cert.{Cert}
-use Rattle.trust_types.specs.Graph.{Certificates, rank, HasEdge, Walk, IsDistance, IsUnreached}
+use Rattle.trust_types.specs.Graph.{Certificates, HasEdge, Walk, IsDistance, IsUnreached}
+use Rattle.trust_types.specs.Levels.{rank}
 use Rattle.trust_types.specs.Capacity.{entry, IsCapacity, AreCapacities}
 use Rattle.trust_types.specs.Rows.{GivesEachOnce}
 
