@@ -133,6 +133,7 @@ impl Caps {
         ensures entry { result ≡ entry self.now distance }
         ensures least { 1 ≤ result }
         ensures most { result ≤ 2000 }
+        ensures table { IsTable self.now }
     {
         let place = (self.len - 1).min(distance as usize);
         self.entries[place]

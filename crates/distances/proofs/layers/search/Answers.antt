@@ -18,7 +18,7 @@ loop-start-preserved g c =
     let end : c.len-end.result ≡ length loop.queue.items = omega (arith, loop.queue.ok.0) in
     let further = loop.distance + 1 + 1 in
     let capacity : c.at-capacity.result ≡ entry table further =
-    c.at-capacity.ensures.value ∙ ap (entry table) c.saturating_add.ensures ∙ entry-min table further 4294967295 (omega (arith, c.at-capacity.ensures.length)) in
+    c.at-capacity.ensures.entry ∙ ap (entry table) c.saturating_add.ensures ∙ entry-min table further 4294967295 (omega (arith, c.at-capacity.ensures.table.few)) in
     record {
       layered = layer_after graph c.args.level table (loop.distance + 1) further loop.start c.len-end.result c.at-capacity.result loop.out loop.queue.items c.expand_layer.new.out c.expand_layer.new.queue.items
           loop.invariant.layered (omega arith) c.expand_layer.ensures.reached (omega arith) end capacity;
