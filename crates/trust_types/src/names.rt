@@ -1,4 +1,4 @@
-ghost use Rattle.std.specs.Prelude.{◌≡◌, Some, None, nat_eq, refl, if◌then◌else◌};
+ghost use Rattle.std.specs.Prelude.{ℕ, List, ◌≡◌, ◌↔◌, Some, None, nat_eq, refl, if◌then◌else◌};
 ghost use Rattle.std.specs.Ordering.{nat_cmp};
 ghost use Rattle.std.specs.Cmp.{partial_equiv_from_equiv};
 ghost use Rattle.std.specs.Cmp.Lexicographic.{pointwise, slice_cmp, nat_list_eq_equiv, nat_list_cmp_total, texts_po, texts_ties};
@@ -6,7 +6,7 @@ ghost use Rattle.std.specs.Cmp.Rules.{hashing};
 ghost use Rattle.std.specs.Hash as fed;
 ghost use Rattle.std.specs.List.{list_all};
 ghost use Rattle.std.proofs.Common.{rules};
-ghost use Rattle.trust_types.specs.Names.{IsName, is_name, is_name_byte};
+ghost use Rattle.trust_types.specs.Names.{IsName, is_name, is_name_byte, name_key};
 
 use std::cmp::Ordering;
 use std::hash::{Hash, Hasher};
@@ -82,6 +82,19 @@ impl Name {
         ensures name { IsName self.now }
     {
         &self.bytes[..self.len as usize]
+    }
+
+    /// A number by which maps look names up faster than by their bytes. Two names have the same one only where they
+    /// are the same.
+    pub fn key(&self) -> u128
+        ensures value { result ≡ name_key self.now }
+        ensures apart { (other : List ℕ) → IsName other → (name_key other ≡ result) ↔ (other ≡ self.now) }
+    {
+        let mut key = 0;
+        for byte in self.bytes() {
+            key = key * 76 + (*byte - 47) as u128;
+        }
+        key
     }
 
     /// Its bytes as a text.
