@@ -88,6 +88,7 @@ impl Name {
     /// are the same.
     pub fn key(&self) -> u128
         ensures value { result ≡ name_key self.now }
+        ensures name { IsName self.now }
         ensures apart { (other : List ℕ) → IsName other → (name_key other ≡ result) ↔ (other ≡ self.now) }
     {
         let mut key = 0;
