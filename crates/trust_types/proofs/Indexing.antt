@@ -7,7 +7,7 @@ use Rattle.std.specs.Str.{bytes_eq}
 use Rattle.std.specs.BTreeMap as tree
 use Rattle.std.proofs.lemmas.Bool.{false≢true}
 use Rattle.std.proofs.lemmas.List.{length_push}
-use Rattle.std.proofs.lemmas.List.Sums.{prefix_len-le-length, prefix_len_passes}
+use Rattle.std.proofs.lemmas.List.Sums.{prefix_len-le-length, prefix_len_passes, position_or_len_is}
 use Rattle.std.proofs.lemmas.List.Folds.{position_or_len_push}
 use Rattle.std.proofs.lemmas.List.Quantifiers.{all_pairs_push}
 use Rattle.std.proofs.lemmas.Slice.Eq.{bytes_eq-Decides}
@@ -74,3 +74,17 @@ indexed_more names old new name key number is none next updates apart = record {
   ∙ ap (λ (n : ℕ). cond (bytes_eq name q) (Some n) (number_of names q)) next
   ∙ number_after names name q (bytes_eq name q) (number_of names q) refl none refl
 }
+
+unequal : (a b : List ℕ) (t : Bool) → bytes_eq a b ≡ t → a ≢ b → bytes_eq a b ≡ false
+unequal a b true e apart = absurd (apart ((bytes_eq-Decides a b).0 e))
+unequal a b false e apart = e
+
+nowhere : (n l : ℕ) → n ≡ l → cond (nat_lt n l) (Some n) None ≡ None
+nowhere n l same = grind arith
+
+-- a name that differs from all isn't found
+pub not_found : (names : List (List ℕ)) (name : List ℕ) → ((k : ℕ) (d : List ℕ) → k < length names → get_or names k d ≢ name) → number_of names name ≡ None
+not_found names name differ =
+    let all : position_or_len (λ n. bytes_eq n name) names ≡ length names =
+    position_or_len_is (λ n. bytes_eq n name) names (length names) name (omega arith) (λ k below. unequal (get_or names k name) name (bytes_eq (get_or names k name) name) refl (differ k name below)) (λ below. absurd (omega arith)) in
+    nowhere _ _ all

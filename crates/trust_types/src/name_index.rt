@@ -1,13 +1,13 @@
 //! The names of the accounts, and the number of each.
 
-ghost use Rattle.std.specs.Prelude.{◌≡◌, ◌<◌, ◌^◌, ◌++◌, ◌∷◌, [], ℕ, List, length, slice_get, AllPairs, OnOk, OnErr, Some, None};
+ghost use Rattle.std.specs.Prelude.{◌≡◌, ◌<◌, ◌^◌, ◌++◌, ◌∷◌, [], ℕ, List, length, vec_len, slice_get, OnOk, IfOk, OnErr, Some, None};
 ghost use Rattle.trust_types.specs.Names.{IsName};
-ghost use Rattle.trust_types.specs.NameLists.{number_of, AreApart};
+ghost use Rattle.trust_types.specs.NameLists.{number_of, AreApart, IsIndexed};
 
 use crate::accounts::AccountNo;
 use crate::memory::NoMemory;
 use crate::names::Name;
-use std::alloc::Global;
+use std::alloc::{AllocError, Global};
 use std::collections::BTreeMap;
 use std::marker::Model;
 
@@ -38,6 +38,16 @@ impl NameIndex {
             names: Vec::new(alloc),
             numbers: BTreeMap::new(alloc),
         }
+    }
+
+    /// The names of such a list. One look-up a name.
+    pub fn of(alloc: Global, names: Vec<Name>) -> Result<NameIndex, NoMemory>
+        requires apart { AreApart names.items }
+        requires room { vec_len names < 2 ^ 32 }
+        ensures { IfOk result (λ index. index ≡ names.items) }
+    {
+        let numbers = numbers_of(alloc, &names)?;
+        Ok(NameIndex { names, numbers })
     }
 
     /// How many names there are.
@@ -87,4 +97,17 @@ impl NameIndex {
     {
         self.names
     }
+}
+
+/// The number of each name, by its key.
+fn numbers_of(alloc: Global, names: &[Name]) -> Result<BTreeMap<u128, u32>, AllocError>
+    requires apart { AreApart names.now }
+    requires room { length names.now < 2 ^ 32 }
+    ensures { IfOk result (IsIndexed names.now) }
+{
+    let mut numbers = BTreeMap::new(alloc);
+    for (number, name) in names.iter().enumerate() {
+        numbers.insert(name.key(), number as u32)?;
+    }
+    Ok(numbers)
 }
