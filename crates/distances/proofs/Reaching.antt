@@ -7,7 +7,8 @@ use Rattle.distances.specs.Reached.{IsNew, Reaches, HasRoom}
 use Rattle.trust_types.specs.declared.levels.Level.{Level}
 use Rattle.trust_types.specs.declared.accounts.Node.TheVariants.{Account}
 use Rattle.trust_types.specs.declared.graphs.Cert.{Cert}
-use Rattle.trust_types.specs.Graph.{Certificates, HasEdge, rank}
+use Rattle.trust_types.specs.Levels.{rank}
+use Rattle.trust_types.specs.Graph.{Certificates, HasEdge}
 use Rattle.std.proofs.lemmas.Bool.{cases_lt, cases_eq, lt-ltb}
 use Rattle.std.proofs.lemmas.List.{get_or_append_left, get_or_at, get_or_past}
 use Rattle.std.proofs.lemmas.List.Sums.{sum_by-set, count_by-le-length}

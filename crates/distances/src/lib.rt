@@ -3,7 +3,8 @@
 
 mod layers;
 
-ghost use Rattle.std.specs.Prelude.{ℕ, ◌≡◌, ◌≢◌, ◌≤◌, length, vec_capacity, IfOk};
+ghost use Rattle.std.specs.Prelude.{ℕ, ◌≡◌, ◌≤◌, length, vec_capacity, IfOk};
+ghost use Rattle.trust_types.specs.Levels.{IsGrade};
 ghost use Rattle.trust_types.specs.Capacity.{entry, AreCapacities, cap_by};
 
 use std::alloc::Global;
@@ -43,7 +44,7 @@ pub fn capacities<G: CertGraph>(
     out: &mut [u32],
     queue: &mut Queue,
 )
-    requires grade { level ≢ Level.Observer }
+    requires grade { IsGrade level }
     requires places { length out.old ≡ (G.certificates graph.now).accounts }
     requires room { (G.certificates graph.now).accounts ≤ queue.old }
     ensures capacities { AreCapacities (G.certificates graph.now) level caps.now (cap_by (entry caps.now 0) out.new) }
