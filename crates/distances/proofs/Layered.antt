@@ -5,8 +5,8 @@ use Rattle.std.proofs.lemmas.Bool.{cases_lt, le-ltb}
 use Rattle.trust_types.specs.declared.levels.Level.{Level}
 use Rattle.trust_types.specs.declared.accounts.Node.{Node}
 use Rattle.trust_types.specs.declared.accounts.Node.TheVariants.{Root, Account}
-use Rattle.trust_types.specs.Graph.{Certificates, HasEdge, Walk, IsDistance, IsUnreached}
-use Rattle.trust_types.specs.Capacity.{entry, IsCapacity, AreCapacities, cap_by}
+use Rattle.trust_types.specs.Graph.{Certificates, HasEdge, Walk, IsDistance}
+use Rattle.trust_types.specs.Capacity.{entry, AreCapacities, cap_by}
 use Rattle.trust_types.proofs.Walks.{walk_longer, walk-last, walk-root, walk-within, distance-root, distance_unique}
 use Rattle.distances.specs.Reached.{IsNew, Reaches, IsSeed, IsCertifiedFrom}
 use Rattle.distances.proofs.Reaching.{seen_or_not}

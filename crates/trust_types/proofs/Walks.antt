@@ -1,12 +1,12 @@
 -- Walks from the root, their lengths, and the capacities by them; and the edges that the readers of a graph give.
-use Rattle.std.proofs.Common.{ℕ, zero, suc, ◌≡◌, ◌≢◌, ◌<◌, ◌≤◌, ◌+◌, List, inl, inr, refl, sym, subst, ap, ◌∙◌, arith}
+use Rattle.std.proofs.Common.{ℕ, zero, suc, ◌≡◌, ◌<◌, ◌≤◌, ◌+◌, List, inl, inr, refl, sym, subst, ap, ◌∙◌, arith}
 use Rattle.trust_types.specs.declared.levels.Level.{Level}
 use Rattle.trust_types.specs.declared.levels.Level.TheVariants.{Observer, Apprentice, Journeyer, Master}
 use Rattle.trust_types.specs.declared.accounts.Node.{Node}
 use Rattle.trust_types.specs.declared.accounts.Node.TheVariants.{Root, Account}
 use Rattle.trust_types.specs.declared.graphs.Cert.{Cert}
 use Rattle.trust_types.specs.Levels.{rank, IsGrade}
-use Rattle.trust_types.specs.Graph.{Certificates, HasEdge, Walk, IsDistance, IsUnreached}
+use Rattle.trust_types.specs.Graph.{Certificates, HasEdge, Walk, IsDistance}
 use Rattle.trust_types.specs.Capacity.{entry, IsCapacity, AreCapacities}
 use Rattle.trust_types.specs.Rows.{GivesEachOnce}
 

@@ -1,5 +1,5 @@
-use Rattle.std.proofs.Common.{arith, ◌∙◌, ◌≡◌, ◌≤◌, ◌+◌, ◌-◌, ◌^◌, ℕ, ap, length}
-use Rattle.std.specs.Prelude.{nat_lt, min}
+use Rattle.std.proofs.Common.{arith, ◌∙◌, ◌≡◌, ◌+◌, ℕ, ap, length}
+use Rattle.std.specs.Prelude.{min}
 use Rattle.trust_types.specs.Capacity.{entry}
 use Rattle.distances.proofs.Layered.{first_layer, layer_after, layer-within, capacities_complete, entry-min}
 use Rattle.distances.proofs.layers.search.Goals as goal

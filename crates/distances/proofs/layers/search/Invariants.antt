@@ -1,4 +1,4 @@
-use Rattle.std.proofs.Common.{ℕ, ◌≡◌, ◌≤◌, ◌<◌, ◌+◌, ◌-◌, length, vec_capacity}
+use Rattle.std.proofs.Common.{ℕ, ◌≡◌, ◌<◌, ◌-◌, vec_capacity}
 use Rattle.std.specs.Prelude.{min}
 use Rattle.distances.specs.Reached.{HasRoom}
 use Rattle.distances.proofs.Layered.{IsLayered}
