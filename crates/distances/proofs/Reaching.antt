@@ -7,8 +7,6 @@ use Rattle.distances.specs.Reached.{IsNew, Reaches, HasRoom}
 use Rattle.trust_types.specs.declared.levels.Level.{Level}
 use Rattle.trust_types.specs.declared.accounts.Node.TheVariants.{Account}
 use Rattle.trust_types.specs.declared.graphs.Cert.{Cert}
-use Rattle.trust_types.specs.Graph.{Certificates, HasEdge}
-use Rattle.trust_types.specs.Levels.{rank}
 use Rattle.trust_types.specs.Levels.{rank}
 use Rattle.trust_types.specs.Graph.{Certificates, HasEdge}
 use Rattle.std.proofs.lemmas.Bool.{cases_lt, cases_eq, lt-ltb}

@@ -3,7 +3,6 @@
 ghost use Rattle.std.specs.Prelude.{ℕ, ◌≡◌, ◌<◌, ◌≤◌, List, [], length, slice_index, vec_len, vec_capacity};
 ghost use Rattle.trust_types.specs.declared.accounts.Node.TheVariants.{Account};
 ghost use Rattle.trust_types.specs.Graph.{HasEdge};
-ghost use Rattle.trust_types.specs.Levels.{rank};
 ghost use Rattle.trust_types.specs.Levels.{IsGrade, rank};
 ghost use Rattle.trust_types.specs.Rows.{GivesEachOnce};
 ghost use Rattle.trust_types.specs.Capacity.{entry, AreCapacities, cap_by};

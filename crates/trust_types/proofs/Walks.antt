@@ -5,8 +5,6 @@ use Rattle.trust_types.specs.declared.levels.Level.TheVariants.{Observer, Appren
 use Rattle.trust_types.specs.declared.accounts.Node.{Node}
 use Rattle.trust_types.specs.declared.accounts.Node.TheVariants.{Root, Account}
 use Rattle.trust_types.specs.declared.graphs.Cert.{Cert}
-use Rattle.trust_types.specs.Graph.{Certificates, HasEdge, Walk, IsDistance, IsUnreached}
-use Rattle.trust_types.specs.Levels.{rank}
 use Rattle.trust_types.specs.Levels.{rank, IsGrade}
 use Rattle.trust_types.specs.Graph.{Certificates, HasEdge, Walk, IsDistance}
 use Rattle.trust_types.specs.Capacity.{entry, IsCapacity, AreCapacities}

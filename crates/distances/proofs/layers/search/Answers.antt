@@ -34,9 +34,6 @@ loop-start-preserved g c =
     let long : length c.entries.result.now ≡ length table = ap length c.entries.ensures.all in
     let counted : c.min-distance.result ≡ min (length c.entries.result.now) (depth + 1) = omega (arith, loop.invariant.counted, c.min-distance.ensures) in
     let end : c.len-end.result ≡ length loop.queue.items = omega (arith, loop.queue.ok.0) in
-    let further = loop.distance + 1 + 1 in
-    let capacity : c.at-capacity.result ≡ entry table further =
-    c.at-capacity.ensures.entry ∙ ap (entry table) c.saturating_add.ensures ∙ entry-min table further 4294967295 (omega (arith, c.at-capacity.ensures.table.few)) in
     let capacity : c.at-in-loop-start.result ≡ entry table (depth + 1) = c.at-in-loop-start.ensures.entry ∙ ap (entry table) (rw long at counted) ∙ entry-min table (depth + 1) in
     record {
       depth = depth + 1;
