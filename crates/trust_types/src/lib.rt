@@ -7,6 +7,7 @@ mod graphs;
 mod laws;
 mod levels;
 mod memory;
+mod names;
 
 pub use accounts::{AccountNo, Node};
 pub use flows::{FlowLine, Side};
@@ -16,3 +17,4 @@ pub use laws::{
 };
 pub use levels::Level;
 pub use memory::NoMemory;
+pub use names::Name;
