@@ -2,6 +2,7 @@
 #![tactic(auto)]
 
 mod accounts;
+mod cert_lists;
 mod flows;
 mod graphs;
 mod laws;
@@ -10,6 +11,7 @@ mod memory;
 mod names;
 
 pub use accounts::{AccountNo, Node};
+pub use cert_lists::CertList;
 pub use flows::{FlowLine, Side};
 pub use graphs::{Cert, CertGraph};
 pub use laws::{
