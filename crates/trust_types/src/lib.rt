@@ -9,6 +9,7 @@ mod laws;
 mod levels;
 mod memory;
 mod names;
+mod tables;
 
 pub use accounts::{AccountNo, Node};
 pub use cert_lists::CertList;
@@ -20,3 +21,4 @@ pub use laws::{
 pub use levels::Level;
 pub use memory::NoMemory;
 pub use names::Name;
+pub use tables::{Caps, CapsFault};

@@ -30,15 +30,16 @@ impl Model for Name {
 
     ghost Value = { List ℕ };
 
-    ghost use Rattle.trust_types.specs.Names.{KeepsName, padded};
+    ghost use Rattle.trust_types.specs.Names.{IsName};
+    ghost use Rattle.trust_types.specs.Padded.{IsPadded, padded};
 
     ghost view = { λ a. take a.len a.bytes };
 
-    ghost invariant = { λ a. KeepsName a.bytes a.len };
+    ghost invariant = { λ a. IsName (take a.len a.bytes) × IsPadded 20 a.bytes a.len };
 
-    ghost inverse = { λ name. record { bytes = padded name; len = length name } };
+    ghost inverse = { λ name. record { bytes = padded 20 name; len = length name } };
 
-    ghost inverse_ok = { λ a h i. record { bytes = sym h.rest i; len = h.long i } };
+    ghost inverse_ok = { λ a h i. record { bytes = sym h.1.rest i; len = h.1.long i } };
 }
 
 fn is_name_byte(byte: u8) -> bool
