@@ -54,3 +54,30 @@ impl fmt::Display for Level {
         f.pad(self.name())
     }
 }
+
+#[cfg(test)]
+mod tests {
+    use super::*;
+    use std::test::Fail;
+
+    #[test]
+    fn reads_the_four_spellings_and_no_other(rt: HostRuntime) -> Result<(), Fail> {
+        for (word, level) in [
+            ("Observer", Some(Level::Observer)),
+            ("Apprentice", Some(Level::Apprentice)),
+            ("Journeyer", Some(Level::Journeyer)),
+            ("Master", Some(Level::Master)),
+            ("master", None),
+            ("Masters", None),
+            ("Maste", None),
+            ("", None),
+        ] {
+            assert_eq!(rt; Level::of_name(word.as_bytes()), level, "at {word}");
+            if let Some(level) = level {
+                assert_eq!(rt; level.to_string(rt.alloc())?.as_str(), word);
+            }
+        }
+        assert!(rt; !Level::Observer.is_grade() && Level::Apprentice.is_grade());
+        Ok(())
+    }
+}

@@ -8,17 +8,26 @@ mod graphs;
 mod laws;
 mod levels;
 mod memory;
+mod name_index;
 mod names;
+mod records;
+mod steps;
 mod tables;
+mod texts;
 
 pub use accounts::{AccountNo, Node};
 pub use cert_lists::CertList;
 pub use flows::{FlowLine, Side};
 pub use graphs::{Cert, CertGraph};
 pub use laws::{
-    served_at_most_bound, served_at_most_entering, total_at_most_cut, total_is_root_units,
+    proven_is_greatest, proven_is_roster, served_at_most_bound, served_at_most_entering,
+    total_at_most_cut, total_is_root_units,
 };
 pub use levels::Level;
 pub use memory::NoMemory;
+pub use name_index::NameIndex;
 pub use names::Name;
+pub use records::{Record, Secret};
+pub use steps::Steps;
 pub use tables::{Caps, CapsFault};
+pub use texts::Text;

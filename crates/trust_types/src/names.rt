@@ -1,4 +1,4 @@
-ghost use Rattle.std.specs.Prelude.{◌≡◌, Some, None, nat_eq, refl, if◌then◌else◌};
+ghost use Rattle.std.specs.Prelude.{ℕ, List, ◌≡◌, ◌↔◌, Some, None, nat_eq, refl, if◌then◌else◌};
 ghost use Rattle.std.specs.Ordering.{nat_cmp};
 ghost use Rattle.std.specs.Cmp.{partial_equiv_from_equiv};
 ghost use Rattle.std.specs.Cmp.Lexicographic.{pointwise, slice_cmp, nat_list_eq_equiv, nat_list_cmp_total, texts_po, texts_ties};
@@ -6,7 +6,7 @@ ghost use Rattle.std.specs.Cmp.Rules.{hashing};
 ghost use Rattle.std.specs.Hash as fed;
 ghost use Rattle.std.specs.List.{list_all};
 ghost use Rattle.std.proofs.Common.{rules};
-ghost use Rattle.trust_types.specs.Names.{IsName, is_name, is_name_byte};
+ghost use Rattle.trust_types.specs.Names.{IsName, is_name, is_name_byte, name_key};
 
 use std::cmp::Ordering;
 use std::hash::{Hash, Hasher};
@@ -84,6 +84,20 @@ impl Name {
         &self.bytes[..self.len as usize]
     }
 
+    /// A number by which maps look names up faster than by their bytes. Two names have the same one only where they
+    /// are the same.
+    pub fn key(&self) -> u128
+        ensures value { result ≡ name_key self.now }
+        ensures name { IsName self.now }
+        ensures apart { (other : List ℕ) → IsName other → (name_key other ≡ result) ↔ (other ≡ self.now) }
+    {
+        let mut key = 0;
+        for byte in self.bytes() {
+            key = key * 76 + (*byte - 47) as u128;
+        }
+        key
+    }
+
     /// Its bytes as a text.
     pub fn as_str(&self) -> &str
         ensures { result.now ≡ self.now }
@@ -151,5 +165,40 @@ impl Hash for Name {
 
     fn hash<H: Hasher>(&self, state: &mut H) {
         self.bytes().hash(state);
+    }
+}
+
+#[cfg(test)]
+mod tests {
+    use super::*;
+    use std::test::Fail;
+
+    #[test]
+    fn reads_its_form_and_no_other(rt: HostRuntime) -> Result<(), Fail> {
+        for (word, is_one) in [
+            ("raph", true),
+            ("x", true),
+            ("a9z0", true),
+            ("aaaaaaaaaaaaaaaaaaaa", true),
+            ("aaaaaaaaaaaaaaaaaaaaa", false),
+            ("", false),
+            ("9lives", false),
+            ("Raph", false),
+            ("raPh", false),
+            ("ra-ph", false),
+            ("raph ", false),
+            ("`", false),
+            ("a{", false),
+        ] {
+            match Name::read(word.as_bytes()) {
+                Some(name) => assert!(rt; is_one && name.as_str() == word, "at {word}"),
+                None => assert!(rt; !is_one, "at {word}"),
+            }
+        }
+        let short = Name::read(b"ab").expect(&rt, "a name");
+        let long = Name::read(b"ab0").expect(&rt, "a name");
+        assert!(rt; short < long && short != long);
+        assert_eq!(rt; long.to_string(rt.alloc())?.as_str(), "ab0");
+        Ok(())
     }
 }

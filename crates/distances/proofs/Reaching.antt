@@ -1,0 +1,152 @@
+-- What one step of the search reaches, or two in a row.
+use Rattle.std.proofs.Common.{ℕ, Bool, true, false, cond, ◌≡◌, ◌<◌, ◌≤◌, ◌+◌, ◌⊎◌, List, [], ◌∷◌, ◌++◌, length, get_or, set, inl, inr, refl, sym, subst, ap, ◌∙◌, arith, length-append, length-set, get_or-set_same, get_or-set_other}
+use Rattle.std.specs.Prelude.{slice_index, slice_set, count_by, nat_lt, vec_capacity, IsTrue}
+use Rattle.std.specs.declared.vec.Vec.{Vec}
+use Rattle.std.specs.declared.alloc.Global.{Global}
+use Rattle.distances.specs.Reached.{IsNew, Reaches, HasRoom}
+use Rattle.trust_types.specs.declared.levels.Level.{Level}
+use Rattle.trust_types.specs.declared.accounts.Node.TheVariants.{Account}
+use Rattle.trust_types.specs.declared.graphs.Cert.{Cert}
+use Rattle.trust_types.specs.Graph.{Certificates, HasEdge}
+use Rattle.trust_types.specs.Levels.{rank}
+use Rattle.std.proofs.lemmas.Bool.{cases_lt, cases_eq, lt-ltb}
+use Rattle.std.proofs.lemmas.List.{get_or_append_left, get_or_at, get_or_past}
+use Rattle.std.proofs.lemmas.List.Sums.{sum_by-set, count_by-le-length}
+
+-- an account is reached or not
+pub seen_or_not : (out : List ℕ) (b : ℕ) → (0 < slice_index out b) ⊎ (slice_index out b ≡ 0)
+seen_or_not out b = elim (cases_lt 0 (slice_index out b)) [
+  | inl seen ↦ inl seen
+  | inr unseen ↦ inr (omega arith)
+]
+
+-- a step that finds all of the set reached
+pub reaches_none : (P : ℕ → Type 0) (c : ℕ) (out queue : List ℕ) → ((b : ℕ) → P b → 0 < slice_index out b) → Reaches P c out queue out queue
+reaches_none P c out queue all = record {
+  kept = λ b seen. refl;
+  all = all;
+  only = λ b new. absurd (omega (arith, new.unseen, new.seen));
+  given = λ b new. absurd (omega (arith, new.unseen, new.seen));
+  longer = omega arith;
+  stays = λ i within. refl;
+  queued = λ i from within. absurd (omega arith);
+  waits = λ b new. absurd (omega (arith, new.unseen, new.seen));
+}
+
+-- a step that reaches one account
+pub reaches_one : (a c : ℕ) (out queue : List ℕ) → a < length out → slice_index out a ≡ 0 → 0 < c → Reaches (λ b. b ≡ a) c out queue (slice_set out a c) (queue ++ a ∷ [])
+reaches_one a c out queue within unseen some =
+    let here : slice_index (slice_set out a c) a ≡ c = get_or-set_same out a c 0 within in
+    let other : (b : ℕ) → (b ≡ a → ⊥) → slice_index (slice_set out a c) b ≡ slice_index out b = λ b apart. get_or-set_other out a b c 0 apart in
+    let long : length (queue ++ a ∷ []) ≡ length queue + 1 = length-append queue (a ∷ []) in
+    let last : slice_index (queue ++ a ∷ []) (length queue) ≡ a = get_or_at queue a [] 0 (length queue) refl in
+    let only : (b : ℕ) → IsNew out (slice_set out a c) b → b ≡ a = λ b new. elim (cases_eq b a) [
+      | inl same ↦ same
+      | inr apart ↦ absurd (omega (arith, new.unseen, new.seen, other b apart))
+    ] in
+    record {
+      kept = λ b seen. other b (λ same. absurd (omega (arith, ap (slice_index out) same)));
+      all = λ b same. omega (arith, ap (slice_index (slice_set out a c)) same, here);
+      only = only;
+      given = λ b new. ap (slice_index (slice_set out a c)) (only b new) ∙ here;
+      longer = omega arith;
+      stays = λ i before. get_or_append_left queue (a ∷ []) 0 i before;
+      queued = λ i from before.
+          let at : i ≡ length queue = omega arith in
+          let is : slice_index (queue ++ a ∷ []) i ≡ a = ap (slice_index (queue ++ a ∷ [])) at ∙ last in
+          record { unseen = ap (slice_index out) is ∙ unseen; seen = omega (arith, ap (slice_index (slice_set out a c)) is, here) };
+      waits = λ b new. (length queue, omega arith, omega arith, last ∙ sym (only b new));
+    }
+
+-- a step and then another
+pub reaches_more : (P Q R : ℕ → Type 0) (c : ℕ) (out queue out' queue' out'' queue'' : List ℕ) →
+    Reaches P c out queue out' queue' → Reaches Q c out' queue' out'' queue'' →
+    ((b : ℕ) → R b → P b ⊎ Q b) → ((b : ℕ) → P b → R b) → ((b : ℕ) → Q b → R b) → Reaches R c out queue out'' queue''
+reaches_more P Q R c out queue out' queue' out'' queue'' first then parts left right =
+    let grows : (b : ℕ) → 0 < slice_index out b → 0 < slice_index out' b = λ b seen. omega (arith, first.kept b seen) in
+    let grows_on : (b : ℕ) → 0 < slice_index out' b → 0 < slice_index out'' b = λ b seen. omega (arith, then.kept b seen) in
+    record {
+      kept = λ b seen. then.kept b (grows b seen) ∙ first.kept b seen;
+      all = λ b in_set. elim (parts b in_set) [
+        | inl early ↦ grows_on b (first.all b early)
+        | inr late ↦ then.all b late
+      ];
+      only = λ b new. elim (seen_or_not out' b) [
+        | inl early ↦ left b (first.only b (record { unseen = new.unseen; seen = early }))
+        | inr late ↦ right b (then.only b (record { unseen = late; seen = new.seen }))
+      ];
+      given = λ b new. elim (seen_or_not out' b) [
+        | inl early ↦ then.kept b early ∙ first.given b (record { unseen = new.unseen; seen = early })
+        | inr late ↦ then.given b (record { unseen = late; seen = new.seen })
+      ];
+      longer = omega (arith, first.longer, then.longer);
+      stays = λ i before. then.stays i (omega (arith, first.longer)) ∙ first.stays i before;
+      queued = λ i from before. elim (cases_lt i (length queue')) [
+        | inl early ↦
+            let new = first.queued i from early in
+            let is = then.stays i early in
+            record { unseen = ap (slice_index out) is ∙ new.unseen; seen = omega (arith, ap (slice_index out'') is, grows_on (slice_index queue' i) new.seen) }
+        | inr late ↦
+            let new = then.queued i late before in
+            let b : ℕ = slice_index queue'' i in
+            record { unseen = elim (seen_or_not out b) [ inl early ↦ absurd (omega (arith, grows b early, new.unseen)) | inr never ↦ never ]; seen = new.seen }
+      ];
+      waits = λ b new. elim (seen_or_not out' b) [
+        | inl early ↦
+            let at = first.waits b (record { unseen = new.unseen; seen = early }) in
+            (at.0, at.1, omega (arith, at.2, then.longer), then.stays at.0 at.2 ∙ at.3)
+        | inr late ↦
+            let at = then.waits b (record { unseen = late; seen = new.seen }) in
+            (at.0, omega (arith, at.1, first.longer), at.2, at.3)
+      ];
+    }
+
+-- a step by another description of its set
+pub reaches_same : (P R : ℕ → Type 0) (c : ℕ) (out queue out' queue' : List ℕ) → Reaches P c out queue out' queue' →
+    ((b : ℕ) → P b → R b) → ((b : ℕ) → R b → P b) → Reaches R c out queue out' queue'
+reaches_same P R c out queue out' queue' step forth back =
+    reaches_more P P R c out queue out' queue' out' queue' step (reaches_none P c out' queue' step.all) (λ b in_set. inl (back b in_set)) forth forth
+
+weight : ℕ → ℕ
+weight c = cond (nat_lt 0 c) 1 0
+
+-- an account that wasn't reached finds room in the queue
+pub room_for : (out : List ℕ) (queue : Vec ℕ Global) (a c : ℕ) → HasRoom out queue → a < length out → slice_index out a ≡ 0 → 0 < c → length queue.items < vec_capacity queue
+unfolding weight
+room_for out queue a c room within unseen some =
+    let more = sum_by-set weight out a c 0 within in
+    let none : weight (slice_index out a) ≡ 0 = ap weight unseen in
+    let one : weight c ≡ 1 = ap (λ (b : Bool). cond b 1 0) (lt-ltb 0 c some) in
+    let most = count_by-le-length (nat_lt 0) (slice_set out a c) in
+    omega (arith, more, none, one, most, length-set out a c, room.number, room.room)
+
+-- One of the first n of these sets has it.
+abbrev pub IsAmong : (ℕ → ℕ → Type 0) → ℕ → ℕ → Type 0
+IsAmong Q n b = (i : ℕ) × (i < n) × Q i b
+
+-- The account of this number is a seed.
+abbrev pub IsSeedAt : Certificates → ℕ → ℕ → Type 0
+IsSeedAt g a b = (b ≡ a) × IsTrue (g.is_seed a)
+
+-- The i-th certificate is for the account, at the level or above.
+abbrev pub IsGivenAt : (ℕ → Cert) → Level → ℕ → ℕ → Type 0
+IsGivenAt given level i b = (b ≡ (given i).to) × (rank level ≤ rank (given i).level)
+
+-- The account in a place of the queue, from one on, certifies it.
+abbrev pub IsCertifiedAt : Certificates → Level → List ℕ → ℕ → ℕ → ℕ → Type 0
+IsCertifiedAt g level queue start i b = (start ≤ i) × HasEdge g level (Account (slice_index queue i)) b
+
+-- before the first of a row of steps, and after the next
+pub reaches_first : (Q : ℕ → ℕ → Type 0) (n c : ℕ) (out queue : List ℕ) → ((i b : ℕ) → i < n → Q i b → ⊥) → Reaches (IsAmong Q n) c out queue out queue
+reaches_first Q n c out queue none = reaches_none (IsAmong Q n) c out queue (λ b among. absurd (none among.0 b among.1 among.2))
+
+pub reaches_next : (Q : ℕ → ℕ → Type 0) (n c : ℕ) (out queue out' queue' out'' queue'' : List ℕ) →
+    Reaches (IsAmong Q n) c out queue out' queue' → Reaches (Q n) c out' queue' out'' queue'' → Reaches (IsAmong Q (n + 1)) c out queue out'' queue''
+reaches_next Q n c out queue out' queue' out'' queue'' first then =
+    reaches_more (IsAmong Q n) (Q n) (IsAmong Q (n + 1)) c out queue out' queue' out'' queue'' first then
+    (λ b among. elim (cases_lt among.0 n) [
+      | inl before ↦ inl (among.0, before, among.2)
+      | inr here ↦ let at : among.0 ≡ n = omega (arith, among.1) in inr (subst (λ (i : ℕ). Q i b) at among.2)
+    ])
+    (λ b among. (among.0, omega (arith, among.1), among.2))
+    (λ b in_set. (n, omega arith, in_set))

@@ -1,0 +1,6 @@
+pub mod Causes
+pub mod Bytes
+pub mod Calls
+pub mod Memory
+pub mod Reading
+pub mod Standard

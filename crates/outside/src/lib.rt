@@ -1,0 +1,25 @@
+//! The outside world as the metric's programs see it: traits that tell their causes, forms in memory, and the machine's.
+#![tactic(auto)]
+
+mod calls;
+mod counts;
+mod failed;
+mod mem_sink;
+mod mem_source;
+mod reading;
+mod sink;
+mod source;
+mod standard;
+mod writing;
+
+pub use failed::Failed;
+pub use mem_sink::MemSink;
+pub use mem_source::MemSource;
+pub use reading::{ReadFault, read_to_end};
+pub use sink::Sink;
+pub use source::Source;
+pub use standard::{StdSink, StdSource};
+pub use writing::write_all;
+
+#[cfg(test)]
+mod tests;
