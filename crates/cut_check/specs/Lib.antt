@@ -7,3 +7,4 @@ pub mod Sides
 pub mod Sums
 pub mod Cursor
 pub mod Check
+pub mod Figures

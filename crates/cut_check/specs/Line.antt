@@ -1,5 +1,5 @@
 -- The line that a verdict is printed as.
-use Rattle.std.specs.Prelude.{ℕ, ◌<◌, List, [], ◌∷◌, ◌++◌, codes, decimal, slice_index_or}
+use Rattle.std.specs.Prelude.{ℕ, ◌<◌, List, [], ◌++◌, codes, decimal, slice_index_or}
 use Rattle.trust_types.specs.declared.accounts.Node.{Node}
 use Rattle.trust_types.specs.declared.accounts.Node.TheVariants.{Root, Account}
 use Rattle.cut_check.specs.declared.verdicts.Verdict.{Verdict}

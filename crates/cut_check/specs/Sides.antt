@@ -1,6 +1,5 @@
 -- The sides of a cut as an array has them.
-use Rattle.std.specs.Prelude.{ℕ, List, slice_index_or}
-use Rattle.trust_types.specs.declared.accounts.Node.{Node}
+use Rattle.std.specs.Prelude.{List, slice_index_or}
 use Rattle.trust_types.specs.declared.accounts.Node.TheVariants.{Root, Account}
 use Rattle.trust_types.specs.declared.flows.Side.{Side}
 use Rattle.trust_types.specs.declared.flows.Side.TheVariants.{Outside}

@@ -1,7 +1,8 @@
 ghost use Rattle.std.specs.Prelude.{◌≡◌, ◌≢◌, ◌++◌, All, AllPairs, length, vec_len};
-ghost use Rattle.trust_types.specs.declared.levels.Level.TheVariants.{Observer};
 ghost use Rattle.trust_types.specs.declared.accounts.Node.TheVariants.{Root};
 ghost use Rattle.trust_types.specs.declared.flows.Side.TheVariants.{Outside};
+ghost use Rattle.trust_types.specs.Levels.{IsGrade};
+ghost use Rattle.trust_types.specs.NameLists.{AreApart};
 ghost use Rattle.trust_types.specs.Layout.{accounts};
 ghost use Rattle.trust_types.specs.Lines.{sides_of};
 ghost use Rattle.cut_check.specs.Proof.{IsNodeAmong, IsLineAmong, IsBefore};
@@ -23,8 +24,8 @@ pub struct Proof {
     /// The nodes of the cut that are full.
     pub full: Vec<Node>,
     pub ghost named: { vec_len names ≡ accounts graph },
-    pub ghost names_differ: { AllPairs (λ a b. a ≢ b) names.items },
-    pub ghost grade: { level ≢ Observer },
+    pub ghost names_differ: { AreApart names.items },
+    pub ghost grade: { IsGrade level },
     pub ghost lines: { All (IsLineAmong (accounts graph)) flow.items },
     pub ghost lines_rise: { AllPairs IsBefore flow.items },
     pub ghost pass_among: { All (IsNodeAmong (accounts graph)) pass.items },
