@@ -1,0 +1,6 @@
+mod CertEdges
+mod FlowLines
+mod MissingEdge
+mod Values
+mod Adding
+mod Judging
