@@ -1,12 +1,12 @@
 -- Walks from the root, their lengths, and the capacities by them; and the edges that the readers of a graph give.
-use Rattle.std.proofs.Common.{ℕ, zero, suc, ◌≡◌, ◌≢◌, ◌<◌, ◌≤◌, ◌+◌, List, inl, inr, refl, sym, subst, ap, ◌∙◌, arith}
+use Rattle.std.proofs.Common.{ℕ, zero, suc, ◌≡◌, ◌<◌, ◌≤◌, ◌+◌, List, inl, inr, refl, sym, subst, ap, ◌∙◌, arith}
 use Rattle.trust_types.specs.declared.levels.Level.{Level}
 use Rattle.trust_types.specs.declared.levels.Level.TheVariants.{Observer, Apprentice, Journeyer, Master}
 use Rattle.trust_types.specs.declared.accounts.Node.{Node}
 use Rattle.trust_types.specs.declared.accounts.Node.TheVariants.{Root, Account}
 use Rattle.trust_types.specs.declared.graphs.Cert.{Cert}
-use Rattle.trust_types.specs.Graph.{Certificates, HasEdge, Walk, IsDistance, IsUnreached}
-use Rattle.trust_types.specs.Levels.{rank}
+use Rattle.trust_types.specs.Levels.{rank, IsGrade}
+use Rattle.trust_types.specs.Graph.{Certificates, HasEdge, Walk, IsDistance}
 use Rattle.trust_types.specs.Capacity.{entry, IsCapacity, AreCapacities}
 use Rattle.trust_types.specs.Rows.{GivesEachOnce}
 
@@ -53,11 +53,12 @@ capacity_unique g level table x c d (inr one) (inr other) = one.1 ∙ sym other.
 pub capacities_unique : (g : Certificates) (level : Level) (table : List ℕ) (cap other : Node → ℕ) → AreCapacities g level table cap → AreCapacities g level table other → (x : Node) → cap x ≡ other x
 capacities_unique g level table cap other are those x = capacity_unique g level table x (cap x) (other x) (are x) (those x)
 
-observer-least : (low high : Level) → low ≢ Observer → rank low ≤ rank high → high ≢ Observer
-observer-least Observer high grade below is = grade refl
-observer-least Apprentice high grade below is = let flat : rank high ≡ 0 = ap rank is in absurd (omega arith)
-observer-least Journeyer high grade below is = let flat : rank high ≡ 0 = ap rank is in absurd (omega arith)
-observer-least Master high grade below is = let flat : rank high ≡ 0 = ap rank is in absurd (omega arith)
+-- a level that isn't below a grade is a grade
+grade_above : (low high : Level) → IsGrade low → rank low ≤ rank high → IsGrade high
+grade_above Observer high grade below is = grade refl
+grade_above Apprentice high grade below is = let flat : rank high ≡ 0 = ap rank is in absurd (omega arith)
+grade_above Journeyer high grade below is = let flat : rank high ≡ 0 = ap rank is in absurd (omega arith)
+grade_above Master high grade below is = let flat : rank high ≡ 0 = ap rank is in absurd (omega arith)
 
 -- a certificate of the level or above is an edge
 pub edge_of_cert : (g : Certificates) (degree : ℕ → ℕ) (given : ℕ → ℕ → Cert) (level : Level) (a i : ℕ) → GivesEachOnce g degree given → a < g.accounts → i < degree a →
@@ -66,9 +67,9 @@ edge_of_cert g degree given level a i readers account within enough =
     (account, readers.taker a i account within, subst (λ (l : Level). rank level ≤ rank l) (sym (readers.stands a i account within)) enough)
 
 -- and each edge from an account is such a certificate
-pub cert_of_edge : (g : Certificates) (degree : ℕ → ℕ) (given : ℕ → ℕ → Cert) (level : Level) (a b : ℕ) → GivesEachOnce g degree given → level ≢ Observer →
+pub cert_of_edge : (g : Certificates) (degree : ℕ → ℕ) (given : ℕ → ℕ → Cert) (level : Level) (a b : ℕ) → GivesEachOnce g degree given → IsGrade level →
     HasEdge g level (Account a) b → (i : ℕ) × (i < degree a) × ((given a i).to ≡ b) × (rank level ≤ rank (given a i).level)
 cert_of_edge g degree given level a b readers grade edge =
-    let found = readers.complete a b edge.0 edge.1 (observer-least level (g.standing a b) grade edge.2) in
+    let found = readers.complete a b edge.0 edge.1 (grade_above level (g.standing a b) grade edge.2) in
     let is : g.standing a b ≡ (given a found.0).level = ap (g.standing a) (sym found.2) ∙ readers.stands a found.0 edge.0 found.1 in
     (found.0, found.1, found.2, subst (λ (l : Level). rank level ≤ rank l) is edge.2)

@@ -10,7 +10,7 @@ use crate::command::Command;
 use crate::outcome::{Outcome, Report};
 use crate::status::Status;
 use crate::unread::Unread;
-use outside::{ReadFault, Sink, Source, read_to_end, write_all};
+use outside::{InputFault, Sink, Source, read_to_end, write_all};
 use std::alloc::Global;
 
 /// Does what the words ask, over the source and the sink, and answers how it ended. It reads its input to the end
@@ -49,9 +49,9 @@ fn carry_out<S: Source>(alloc: Global, command: Command, source: &mut S) -> Outc
             Err(Unread::NotAProof) => Outcome::Unreadable,
             Err(Unread::NoMemory) => Outcome::OutOfMemory,
         },
-        Err(ReadFault::TooLong) => Outcome::TooLong,
-        Err(ReadFault::Failed) => Outcome::Unread,
-        Err(ReadFault::NoMemory) => Outcome::OutOfMemory,
+        Err(InputFault::TooLong) => Outcome::TooLong,
+        Err(InputFault::Failed) => Outcome::Unread,
+        Err(InputFault::NoMemory) => Outcome::OutOfMemory,
     }
 }
 
