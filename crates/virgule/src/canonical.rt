@@ -1,20 +1,22 @@
 //! The canonical proof text: each part of a proof in one order, each line ended by LF.
 
-ghost use Rattle.std.specs.Prelude.{◌≡◌, ◌≢◌, ◌<◌, ◌⊎◌, All, IfOk, IsTrue, length};
+ghost use Rattle.std.specs.Prelude.{◌≡◌, ◌≤◌, None, IfOk, length};
 ghost use Rattle.trust_types.specs.Levels.{IsGrade};
+ghost use Rattle.trust_types.specs.NameLists.{number_of};
 
 mod lines;
-mod names;
 mod rest;
 
 use crate::unread::Unread;
 use cut_check::Proof;
 use lines::{has_root, read_certs, read_flow, read_nodes, read_seeds, share_none};
-use names::Names;
 use rest::Rest;
 use std::alloc::Global;
 use std::str;
-use trust_types::{Caps, CertList, Level};
+use trust_types::{Caps, CertList, Level, Name, NameIndex};
+
+/// The most accounts.
+const MOST_ACCOUNTS: usize = 100_000;
 
 /// The proof that a text is. It goes once over the text, and takes memory for what the text says.
 ///
@@ -26,7 +28,7 @@ pub fn read_proof(alloc: Global, bytes: &[u8]) -> Result<Proof, Unread> {
     let names = read_names(alloc, &mut text)?;
     let seeds = read_seeds(alloc, &mut text, &names)?;
     let certs = read_certs(alloc, &mut text, &names)?;
-    let graph = CertList::of(alloc, names.count(), seeds, certs)?;
+    let graph = CertList::of(alloc, names.count() as u32, seeds, certs)?;
     let level = read_level(&mut text)?;
     let flow = read_flow(alloc, &mut text, &names)?;
     let pass = read_nodes(alloc, &mut text, b"pass ", &names)?;
@@ -36,7 +38,7 @@ pub fn read_proof(alloc: Global, bytes: &[u8]) -> Result<Proof, Unread> {
     }
     Ok(Proof {
         caps,
-        names: names.into_list(),
+        names: names.into_names(),
         graph,
         level,
         flow,
@@ -60,12 +62,28 @@ fn read_caps(alloc: Global, text: &mut Rest) -> Result<Caps, Unread> {
 }
 
 /// Reads the lines `account NAME`.
-fn read_names(alloc: Global, text: &mut Rest) -> Result<Names, Unread> {
-    let mut names = Names::new(alloc);
+fn read_names(alloc: Global, text: &mut Rest) -> Result<NameIndex, Unread>
+    ensures { IfOk result (λ names. length names ≤ 100000) }
+{
+    let mut names = NameIndex::new(alloc);
     while text.skip(b"account ") {
-        names.push(text.word(b'\n')?)?;
+        let name = new_name(&names, text.word(b'\n')?)?;
+        if names.count() >= MOST_ACCOUNTS {
+            return Err(Unread::NotAProof);
+        }
+        names.push(name)?;
     }
     Ok(names)
+}
+
+/// The name that the word is, which no account has yet.
+fn new_name(names: &NameIndex, word: &[u8]) -> Result<Name, Unread>
+    ensures { IfOk result (λ name. number_of names.now name ≡ None) }
+{
+    match Name::read(word) {
+        Some(name) if names.find(&name).is_none() => Ok(name),
+        _ => Err(Unread::NotAProof),
+    }
 }
 
 /// Reads a line `level GRADE`.

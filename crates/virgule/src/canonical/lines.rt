@@ -7,23 +7,26 @@ ghost use Rattle.trust_types.specs.Certs.{CanStand, IsCertAmong, IsBefore};
 ghost use Rattle.trust_types.specs.Lines.{place, sides_of};
 ghost use Rattle.cut_check.specs.Proof.{IsNodeAmong, IsLineAmong, IsBefore as IsLineBefore};
 
-use crate::canonical::names::Names;
 use crate::canonical::rest::Rest;
 use crate::canonical::{grade, number};
 use crate::unread::Unread;
 use std::alloc::Global;
-use trust_types::{AccountNo, Cert, FlowLine, Node};
+use trust_types::{AccountNo, Cert, FlowLine, Name, NameIndex, Node};
 
 /// The most certificates.
 const MOST_CERTS: usize = 2_000_000;
 
 /// Reads the lines `seed NAME`.
-pub fn read_seeds(alloc: Global, text: &mut Rest, names: &Names) -> Result<Vec<AccountNo>, Unread>
+pub fn read_seeds(
+    alloc: Global,
+    text: &mut Rest,
+    names: &NameIndex,
+) -> Result<Vec<AccountNo>, Unread>
     ensures { IfOk result (λ seeds. All (λ a. a < length names.now) seeds.items) }
 {
     let mut seeds = Vec::new(alloc);
     while text.skip(b"seed ") {
-        let seed = names.find(text.word(b'\n')?)?;
+        let seed = find(names, text.word(b'\n')?)?;
         if seeds.last() >= Some(&seed) {
             return Err(Unread::NotAProof);
         }
@@ -33,12 +36,12 @@ pub fn read_seeds(alloc: Global, text: &mut Rest, names: &Names) -> Result<Vec<A
 }
 
 /// Reads the lines `cert NAME NAME LEVEL`.
-pub fn read_certs(alloc: Global, text: &mut Rest, names: &Names) -> Result<Vec<Cert>, Unread>
+pub fn read_certs(alloc: Global, text: &mut Rest, names: &NameIndex) -> Result<Vec<Cert>, Unread>
     ensures { IfOk result (λ certs. CanStand (length names.now) certs.items) }
 {
     let mut certs = Vec::new(alloc);
     while text.skip(b"cert ") {
-        let cert = read_cert(text, names, certs.last())?;
+        let cert = read_cert(text, names, &certs)?;
         if certs.len() >= MOST_CERTS || !comes_next(&certs, &cert) {
             return Err(Unread::NotAProof);
         }
@@ -47,18 +50,32 @@ pub fn read_certs(alloc: Global, text: &mut Rest, names: &Names) -> Result<Vec<C
     Ok(certs)
 }
 
-/// Reads the rest of a line behind `cert `. Its giver is often that of the line before.
-fn read_cert(text: &mut Rest, names: &Names, before: Option<&Cert>) -> Result<Cert, Unread>
+/// Reads the rest of a line behind `cert `.
+fn read_cert(text: &mut Rest, names: &NameIndex, before: &[Cert]) -> Result<Cert, Unread>
+    requires { All (IsCertAmong (length names.now)) before.now }
     ensures among { IfOk result (IsCertAmong (length names.now)) }
     ensures shorter { length text.new ≤ length text.old }
 {
-    let from = names.find_guessing(text.word(b' ')?, before.map(|cert| cert.from))?;
-    let to = names.find(text.word(b' ')?)?;
+    let from = find_giver(names, text.word(b' ')?, before)?;
+    let to = find(names, text.word(b' ')?)?;
     let level = grade(text.word(b'\n')?)?;
     if from == to {
         return Err(Unread::NotAProof);
     }
     Ok(Cert { from, to, level })
+}
+
+/// The account of that name, which is often the giver of the last certificate before.
+fn find_giver(names: &NameIndex, word: &[u8], before: &[Cert]) -> Result<AccountNo, Unread>
+    requires { All (IsCertAmong (length names.now)) before.now }
+    ensures { IfOk result (λ a. a < length names.now) }
+{
+    if let Some(last) = before.last() {
+        if names.name(last.from).bytes() == word {
+            return Ok(last.from);
+        }
+    }
+    find(names, word)
 }
 
 /// Whether a certificate comes behind all of a list that rises.
@@ -73,7 +90,7 @@ fn comes_next(certs: &[Cert], cert: &Cert) -> bool
 }
 
 /// Reads the lines `flow NODE NAME UNITS`.
-pub fn read_flow(alloc: Global, text: &mut Rest, names: &Names) -> Result<Vec<FlowLine>, Unread>
+pub fn read_flow(alloc: Global, text: &mut Rest, names: &NameIndex) -> Result<Vec<FlowLine>, Unread>
     ensures among { IfOk result (λ flow. All (IsLineAmong (length names.now)) flow.items) }
     ensures rises { IfOk result (λ flow. AllPairs IsLineBefore flow.items) }
 {
@@ -89,12 +106,12 @@ pub fn read_flow(alloc: Global, text: &mut Rest, names: &Names) -> Result<Vec<Fl
 }
 
 /// Reads the rest of a line behind `flow `.
-fn read_line(text: &mut Rest, names: &Names) -> Result<FlowLine, Unread>
+fn read_line(text: &mut Rest, names: &NameIndex) -> Result<FlowLine, Unread>
     ensures among { IfOk result (IsLineAmong (length names.now)) }
     ensures shorter { length text.new ≤ length text.old }
 {
     let from = node(text.word(b' ')?, names)?;
-    let to = names.find(text.word(b' ')?)?;
+    let to = find(names, text.word(b' ')?)?;
     let units = number(text.word(b'\n')?)?;
     if units == 0 {
         return Err(Unread::NotAProof);
@@ -118,7 +135,7 @@ pub fn read_nodes(
     alloc: Global,
     text: &mut Rest,
     front: &[u8],
-    names: &Names,
+    names: &NameIndex,
 ) -> Result<Vec<Node>, Unread>
     requires { 0 < length front.now }
     ensures among { IfOk result (λ nodes. All (IsNodeAmong (length names.now)) nodes.items) }
@@ -147,13 +164,23 @@ fn node_comes_next(nodes: &[Node], node: &Node) -> bool
 }
 
 /// The node that the word is: a dash is the root.
-fn node(word: &[u8], names: &Names) -> Result<Node, Unread>
+fn node(word: &[u8], names: &NameIndex) -> Result<Node, Unread>
     ensures { IfOk result (IsNodeAmong (length names.now)) }
 {
     match word {
         b"-" => Ok(Node::Root),
-        _ => Ok(Node::Account(names.find(word)?)),
+        _ => Ok(Node::Account(find(names, word)?)),
     }
+}
+
+/// The account of that name.
+fn find(names: &NameIndex, word: &[u8]) -> Result<AccountNo, Unread>
+    ensures { IfOk result (λ a. a < length names.now) }
+{
+    let Some(name) = Name::read(word) else {
+        return Err(Unread::NotAProof);
+    };
+    names.find(&name).ok_or(Unread::NotAProof)
 }
 
 /// Whether the root is in one of the lists.
