@@ -10,7 +10,8 @@ use std::io;
 use std::io::{ErrorKind, Read, Stdin, Stdout, Write};
 use std::marker::Model;
 
-/// The standard input. A read that a signal interrupts is tried again; any other error is a fault.
+/// The standard input. A read that a signal interrupts is tried again. Any other error is a fault.
+/// Contracts see the counts.
 #[derive(Drop)]
 pub struct StdSource {
     stdin: Stdin,
@@ -62,8 +63,9 @@ impl Source for StdSource {
     }
 }
 
-/// The standard output. A write that a signal interrupts is tried again; any other error is a fault, also
-/// one of the flush after a write, and a write that takes nothing. Contracts see the count of faults.
+/// The standard output. A write that a signal interrupts is tried again. Any other error is a fault,
+/// and so are an error of the flush after a write and a write that takes nothing. Contracts see the
+/// count of faults.
 #[derive(Drop)]
 pub struct StdSink {
     stdout: Stdout,
@@ -95,7 +97,7 @@ impl Sink for StdSink {
 
     ghost held = { λ _. None };
 
-    /// It flushes after each write. Where the flush fails, the bytes may have gone out all the same.
+    /// It flushes after each write. Where a flush fails, the bytes may have gone out all the same.
     fn write(&mut self, piece: &[u8]) -> Result<usize, Failed> {
         match write_and_flush(&mut self.stdout, piece) {
             Ok(n) if n > 0 => Ok(n),
@@ -135,4 +137,26 @@ fn write_and_flush<W: Write>(writer: &mut W, piece: &[u8]) -> io::Result<usize>
         }
     }
     Err(ErrorKind::Interrupted.into())
+}
+
+// What the machine gives and takes is not known here. Whatever it is, answer and counts agree.
+#[cfg(test)]
+mod tests {
+    use super::*;
+    use crate::writing::write_all;
+
+    #[test]
+    fn the_standard_input_counts_its_answers(rt: HostRuntime) {
+        let mut source = StdSource::new(&rt);
+        let answer = source.read(&mut [0; 16]);
+        assert_eq!(rt; source.faults.value(), u64::from(answer.is_err()));
+        assert_eq!(rt; source.ends.value(), u64::from(answer == Ok(0)));
+    }
+
+    #[test]
+    fn the_standard_output_counts_its_faults(rt: HostRuntime) {
+        let mut sink = StdSink::new(&rt);
+        let answer = write_all(&mut sink, b"a line of a test\n");
+        assert_eq!(rt; sink.faults.value(), u64::from(answer.is_err()));
+    }
 }

@@ -46,6 +46,13 @@ impl CertList {
     {
         Ok(rows(alloc, accounts, &seeds, &certs)?)
     }
+
+    /// How many certificates there are.
+    pub fn certs(&self) -> u32
+        ensures { result ≡ length self.now.takers }
+    {
+        self.takers.len() as u32
+    }
 }
 
 /// The rows of these certificates.

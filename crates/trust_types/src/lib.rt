@@ -8,6 +8,7 @@ mod graphs;
 mod laws;
 mod levels;
 mod memory;
+mod name_index;
 mod names;
 mod records;
 mod steps;
@@ -24,6 +25,7 @@ pub use laws::{
 };
 pub use levels::Level;
 pub use memory::NoMemory;
+pub use name_index::NameIndex;
 pub use names::Name;
 pub use records::{Record, Secret};
 pub use steps::Steps;

@@ -1,12 +1,13 @@
-ghost use Rattle.std.specs.Prelude.{◌≡◌, Some, None, nat_eq, refl, if◌then◌else◌};
+ghost use Rattle.std.specs.Prelude.{ℕ, List, ◌≡◌, ◌↔◌, Some, None, refl, if◌then◌else◌};
 ghost use Rattle.std.specs.Ordering.{nat_cmp};
 ghost use Rattle.std.specs.Cmp.{partial_equiv_from_equiv};
-ghost use Rattle.std.specs.Cmp.Lexicographic.{pointwise, slice_cmp, nat_list_eq_equiv, nat_list_cmp_total, texts_po, texts_ties};
+ghost use Rattle.std.specs.Cmp.Lexicographic.{slice_cmp, nat_list_eq_equiv, nat_list_cmp_total, texts_po, texts_ties};
 ghost use Rattle.std.specs.Cmp.Rules.{hashing};
 ghost use Rattle.std.specs.Hash as fed;
 ghost use Rattle.std.specs.List.{list_all};
+ghost use Rattle.std.specs.Str.{bytes_eq};
 ghost use Rattle.std.proofs.Common.{rules};
-ghost use Rattle.trust_types.specs.Names.{IsName, is_name, is_name_byte};
+ghost use Rattle.trust_types.specs.Names.{IsName, is_name, is_name_byte, name_key};
 
 use std::cmp::Ordering;
 use std::hash::{Hash, Hasher};
@@ -84,10 +85,26 @@ impl Name {
         &self.bytes[..self.len as usize]
     }
 
+    /// A number that tells the name from every other, for maps: they look it up faster than the name itself. Numbers
+    /// don't stand in the order of the names.
+    pub fn key(&self) -> u128
+        ensures value { result ≡ name_key self.now }
+        ensures name { IsName self.now }
+        ensures apart { (other : List ℕ) → IsName other → (name_key other ≡ result) ↔ (other ≡ self.now) }
+    {
+        // The bytes lie from 48 to 122: less 47 they are digits from 1 on, in base 76.
+        let mut key = 0;
+        for byte in self.bytes() {
+            key = key * 76 + (*byte - 47) as u128;
+        }
+        key
+    }
+
     /// Its bytes as a text.
     pub fn as_str(&self) -> &str
         ensures { result.now ≡ self.now }
     {
+        // SAFETY: the bytes of a name are ASCII.
         unsafe { str::from_utf8_unchecked(self.bytes()) }
     }
 }
@@ -107,7 +124,7 @@ impl fmt::Debug for Name {
 }
 
 impl PartialEq for Name {
-    ghost eq = { pointwise nat_eq };
+    ghost eq = { bytes_eq };
 
     ghost laws = { partial_equiv_from_equiv nat_list_eq_equiv };
 
@@ -151,5 +168,40 @@ impl Hash for Name {
 
     fn hash<H: Hasher>(&self, state: &mut H) {
         self.bytes().hash(state);
+    }
+}
+
+#[cfg(test)]
+mod tests {
+    use super::*;
+    use std::test::Fail;
+
+    #[test]
+    fn reads_its_form_and_no_other(rt: HostRuntime) -> Result<(), Fail> {
+        for (word, is_one) in [
+            ("raph", true),
+            ("x", true),
+            ("a9z0", true),
+            ("aaaaaaaaaaaaaaaaaaaa", true),
+            ("aaaaaaaaaaaaaaaaaaaaa", false),
+            ("", false),
+            ("9lives", false),
+            ("Raph", false),
+            ("raPh", false),
+            ("ra-ph", false),
+            ("raph ", false),
+            ("`", false),
+            ("a{", false),
+        ] {
+            match Name::read(word.as_bytes()) {
+                Some(name) => assert!(rt; is_one && name.as_str() == word, "at {word}"),
+                None => assert!(rt; !is_one, "at {word}"),
+            }
+        }
+        let short = Name::read(b"ab").expect(&rt, "a name");
+        let long = Name::read(b"ab0").expect(&rt, "a name");
+        assert!(rt; short < long && short != long && short.key() != long.key());
+        assert_eq!(rt; long.to_string(rt.alloc())?.as_str(), "ab0");
+        Ok(())
     }
 }

@@ -1,6 +1,6 @@
 ghost use Rattle.std.specs.Prelude.{◌≡◌, ◌≤◌, ◌↔◌, ◌<◌, IsOk, nat_lt, length};
 ghost use Rattle.std.specs.List.{list_any};
-ghost use Rattle.trust_types.specs.Tables.{IsTable, rises, table, standard};
+ghost use Rattle.trust_types.specs.Tables.{IsTable, rises, table, standard_table};
 ghost use Rattle.trust_types.specs.Capacity.{entry};
 
 use std::marker::Model;
@@ -50,7 +50,6 @@ impl Model for Caps {
     ghost Value = { List ℕ };
 
     ghost use Rattle.trust_types.specs.Padded.{IsPadded, padded};
-    ghost use Rattle.std.specs.List.{list_any};
     ghost use Rattle.trust_types.specs.Tables.{IsTable};
 
     ghost view = { λ a. take a.len a.entries };
@@ -84,7 +83,7 @@ impl Caps {
     ///
     /// # Errors
     /// The first fault that they have, in the order of [`CapsFault`].
-    #[tactic(auto, using(crate::proofs::TableTests::passes_all, crate::proofs::TableTests::never_exceeds, crate::proofs::TableTests::never_rises))]
+    #[tactic(auto, using(crate::proofs::TableTests::table_tests))]
     pub fn read(entries: &[u32]) -> Result<Caps, CapsFault>
         ensures judged { result ≡ table entries.now }
         ensures accepted { IsOk result ↔ IsTable entries.now }
@@ -124,7 +123,7 @@ impl Caps {
 
     /// The table that a site has unless it is told another: 800, 200, 50, 12, 4, 2 and 1.
     pub fn standard() -> Caps
-        ensures { result ≡ standard }
+        ensures { result ≡ standard_table }
     {
         Caps::keep(&[800, 200, 50, 12, 4, 2, 1])
     }
@@ -134,6 +133,7 @@ impl Caps {
         ensures entry { result ≡ entry self.now distance }
         ensures least { 1 ≤ result }
         ensures most { result ≤ 2000 }
+        ensures table { IsTable self.now }
     {
         let place = (self.len - 1).min(distance as usize);
         self.entries[place]
@@ -145,5 +145,39 @@ impl Caps {
         ensures table { IsTable self.now }
     {
         &self.entries[..self.len]
+    }
+}
+
+#[cfg(test)]
+mod tests {
+    use super::*;
+
+    #[test]
+    fn names_the_first_fault(rt: HostRuntime) {
+        let faulty: [(&[u32], CapsFault); 7] = [
+            (&[], CapsFault::Empty),
+            (&[0; 17], CapsFault::Long),
+            (&[2_001, 0, 3], CapsFault::Zero),
+            (&[1, 2_001, 3], CapsFault::Large),
+            (&[2, 3, 1], CapsFault::Rises),
+            (&[1, 2], CapsFault::Rises),
+            (&[3, 2], CapsFault::EndNotOne),
+        ];
+        for (entries, fault) in faulty {
+            assert_eq!(rt; Caps::read(entries), Err(fault));
+        }
+        let tables: [&[u32]; 3] = [&[1], &[2_000, 1], &[1; 16]];
+        for entries in tables {
+            assert!(rt; Caps::read(entries).is_ok());
+        }
+    }
+
+    #[test]
+    fn ends_with_its_last_entry(rt: HostRuntime) {
+        let caps = Caps::standard();
+        for (distance, capacity) in [(0, 800), (1, 200), (5, 2), (6, 1), (7, 1), (u32::MAX, 1)] {
+            assert_eq!(rt; caps.at(distance), capacity, "at {distance}");
+        }
+        assert!(rt; caps.entries() == [800, 200, 50, 12, 4, 2, 1].as_slice());
     }
 }

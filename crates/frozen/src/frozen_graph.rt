@@ -1,0 +1,127 @@
+ghost use Rattle.std.specs.Prelude.{◌≡◌, ◌<◌, ◌≤◌, ℕ, length, vec_len, slice_get, All, IfOk, Some};
+ghost use Rattle.trust_types.specs.Certs.{CanStand};
+ghost use Rattle.trust_types.specs.NameLists.{AreApart, number_of};
+ghost use Rattle.trust_types.specs.Layout.{certificates as certificates_of};
+ghost use Rattle.frozen.specs.Revision.{Freezes, certificates};
+
+use std::alloc::Global;
+use std::marker::Model;
+use std::sync::Arc;
+use trust_types::{AccountNo, Caps, Cert, CertGraph, CertList, Name, NameIndex, NoMemory};
+
+/// One revision of a site: its accounts, seeds and standing certificates, with the capacity table. It never changes,
+/// and is shared.
+#[derive(Drop)]
+pub struct Frozen {
+    revision: u32,
+    caps: Caps,
+    names: NameIndex,
+    graph: CertList,
+}
+
+impl Model for Frozen {
+    ghost use Rattle.std.specs.Prelude.{◌≡◌, length};
+    ghost use Rattle.trust_types.specs.Layout.{accounts};
+    ghost use Rattle.frozen.specs.Revision.{Revision};
+
+    ghost Value = { Revision };
+
+    ghost view = { λ f. record { number = f.revision; caps = f.caps; names = f.names; rows = f.graph } };
+
+    ghost invariant = { λ f. length f.names ≡ accounts f.graph };
+}
+
+impl Frozen {
+    /// Freezes accounts by their names, seeds and standing certificates under a revision's number. It looks at each
+    /// of them once, but for the index of names, which is built in order.
+    pub fn of(
+        alloc: Global,
+        revision: u32,
+        caps: Caps,
+        names: Vec<Name>,
+        seeds: Vec<AccountNo>,
+        certs: Vec<Cert>,
+    ) -> Result<Arc<Frozen>, NoMemory>
+        requires few { vec_len names ≤ 100000 }
+        requires apart { AreApart names.items }
+        requires seeds { All (λ a. a < vec_len names) seeds.items }
+        requires certs { CanStand (vec_len names) certs.items }
+        ensures { IfOk result (λ f. Freezes f.value revision caps names.items seeds.items certs.items) }
+    {
+        let accounts = names.len() as u32;
+        let graph = CertList::of(alloc, accounts, seeds, certs)?;
+        let names = NameIndex::of(alloc, names)?;
+        Ok(Arc::new(
+            alloc,
+            Frozen {
+                revision,
+                caps,
+                names,
+                graph,
+            },
+        )?)
+    }
+
+    /// The revision's number.
+    pub fn revision(&self) -> u32
+        ensures { result ≡ self.now.number }
+    {
+        self.revision
+    }
+
+    /// The capacity table.
+    pub fn caps(&self) -> &Caps
+        ensures { result.now ≡ self.now.caps }
+    {
+        &self.caps
+    }
+
+    /// The name of an account.
+    pub fn name(&self, account: AccountNo) -> Name
+        requires { account < (certificates self.now).accounts }
+        ensures { slice_get self.now.names account ≡ Some result }
+    {
+        self.names.name(account)
+    }
+
+    /// The account of that name; `None` where none has it.
+    pub fn find(&self, name: &Name) -> Option<AccountNo>
+        ensures { result ≡ number_of self.now.names name.now }
+    {
+        self.names.find(name)
+    }
+
+    /// How many certificates stand.
+    pub fn certs(&self) -> u32
+        ensures { result ≡ length self.now.rows.takers }
+    {
+        self.graph.certs()
+    }
+}
+
+impl CertGraph for Frozen {
+    ghost use Rattle.trust_types.specs.Layout.{degree, given};
+    ghost use Rattle.frozen.specs.Revision.{certificates};
+
+    ghost certificates = { certificates };
+
+    ghost degree_of = { λ r. degree r.rows };
+
+    ghost cert_of = { λ r. given r.rows };
+
+    fn accounts(&self) -> u32 {
+        self.graph.accounts()
+    }
+
+    fn is_seed(&self, account: AccountNo) -> bool {
+        self.graph.is_seed(account)
+    }
+
+    fn degree(&self, account: AccountNo) -> u32 {
+        self.graph.degree(account)
+    }
+
+    fn given(&self, account: AccountNo, i: u32) -> Cert {
+        self.graph.given(account, i)
+    }
+}

@@ -1,0 +1,20 @@
+/// How a run ended.
+#[derive(Clone, Copy, Debug, PartialEq, Eq)]
+pub enum Status {
+    /// All was done.
+    Done = 0,
+    /// `check` gave a verdict other than `greatest`.
+    No = 1,
+    /// The words are no command.
+    Usage = 2,
+    /// The input is no text of its form.
+    Text = 3,
+    /// The input has more bytes than the command takes.
+    InputFull = 4,
+    /// A read failed.
+    ReadFault = 5,
+    /// A write failed. It takes the place of any other status.
+    WriteFault = 6,
+    /// Memory ran out.
+    NoMemory = 9,
+}
