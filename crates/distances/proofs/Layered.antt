@@ -11,13 +11,13 @@ use Rattle.trust_types.proofs.Walks.{walk_longer, last_edge, walk_to_root, walk_
 use Rattle.distances.specs.Reached.{IsNew, Reaches, IsSeed, IsCertifiedFrom}
 use Rattle.distances.proofs.Reaching.{seen_or_not}
 
--- a table has one entry from its end on
-entry-min : (table : List ℕ) (n : ℕ) → entry table (min (length table) n) ≡ entry table n
-entry-min table n = elim (cases_lt n (length table)) [
-  | inl within ↦ let same : min (length table) n ≡ n = omega arith in ap (entry table) same
+-- a table has one entry from its end on, so distances may stop there or later
+entry-min : (table : List ℕ) (n most : ℕ) → length table ≤ most → entry table (min n most) ≡ entry table n
+entry-min table n most long = elim (cases_lt n most) [
+  | inl within ↦ let same : min n most ≡ n = omega arith in ap (entry table) same
   | inr past ↦
-      let same : min (length table) n ≡ length table = omega arith in
-      ap (entry table) same ∙ rw (le-ltb (length table) (length table) (omega arith), le-ltb n (length table) past)
+      let same : min n most ≡ most = omega arith in
+      ap (entry table) same ∙ rw (le-ltb most (length table) long, le-ltb n (length table) (omega arith))
 ]
 
 -- The accounts within a distance are reached, each with its capacity; those at that very distance stand in the queue from a place on.
@@ -107,13 +107,13 @@ module _ {g : Certificates} {level : Level} {table : List ℕ} {d start : ℕ} {
       (place.0, place.1, place.2, subst (λ (k : ℕ). HasEdge g level (Account k) b) (sym place.3) edge)
 
   -- what the accounts of a layer certify makes the next one
-  pub layer_after : {end counted c : ℕ} {out' queue' : List ℕ} → 0 < d → Reaches (IsCertifiedFrom g level queue start) c out queue out' queue' →
-      end ≡ length queue → counted ≡ min (length table) (d + 1) → c ≡ entry table counted → IsLayered g level table (d + 1) end out' queue'
-  layer_after some step here count capacity =
+  pub layer_after : {most end counted c : ℕ} {out' queue' : List ℕ} → length table ≤ most → 0 < d → Reaches (IsCertifiedFrom g level queue start) c out queue out' queue' →
+      end ≡ length queue → counted ≡ min (d + 1) most → c ≡ entry table counted → IsLayered g level table (d + 1) end out' queue'
+  layer_after {most = most} long some step here count capacity =
       let next : d + 1 ≡ suc d = omega arith in
       rw (next, here)
       (next_layer step (λ b given. (Account (slice_index queue given.0), layered.layer given.0 given.1 given.2, given.3)) (certified_from some)
-      (capacity ∙ ap (entry table) count ∙ entry-min table (d + 1) ∙ ap (entry table) next))
+      (capacity ∙ ap (entry table) count ∙ entry-min table (d + 1) most long ∙ ap (entry table) next))
 
   -- once a layer is empty, all that a walk leads to is reached
   closed : 0 < d → length queue ≤ start → (m b : ℕ) → Walk g level m (Account b) → 0 < slice_index out b

@@ -136,14 +136,13 @@ pub fn search<G: CertGraph>(
     ensures capacities { AreCapacities (G.certificates graph.now) level caps.now (cap_by (entry caps.now 0) out.new) }
     ensures reserved { vec_capacity queue.new ≡ vec_capacity queue.old }
 {
-    // From its end on a table has one entry, so distances aren't told apart there.
-    let end_of_table = caps.entries().len() as u32;
-    let mut distance = 1;
+    let mut distance: u32 = 1;
     reach_seeds(graph, graph.accounts(), caps.at(distance), out, queue);
     let mut start = 0;
     while start < queue.len() {
         let end = queue.len();
-        distance = end_of_table.min(distance + 1);
+        // It stops at a number past every table, where the entry stays the same.
+        distance = distance.saturating_add(1);
         expand_layer(graph, level, start, caps.at(distance), out, queue);
         start = end;
     }

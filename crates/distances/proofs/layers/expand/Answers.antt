@@ -13,4 +13,4 @@ pub returns-clause-reached : goal.returns-clause-reached
 returns-clause-reached g c =
     let graph = g.G.CertGraph in
     reaches_edges (graph.certificates c.args.graph.now) (graph.degree_of c.args.graph.now) (graph.cert_of c.args.graph.now) c.args.level c.args.account c.loop-i.i
-    c.requires.readers c.requires.grade c.requires.account (omega (arith, c.degree-i-end.ensures)) c.loop-i.invariant.reached
+    c.requires.readers c.requires.grade c.requires.account (omega arith) c.loop-i.invariant.reached

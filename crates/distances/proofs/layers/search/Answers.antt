@@ -1,4 +1,4 @@
-use Rattle.std.proofs.Common.{arith, ◌∙◌, ◌≡◌, ◌+◌, ℕ, ap, length}
+use Rattle.std.proofs.Common.{arith, ◌∙◌, ◌≡◌, ◌+◌, ◌-◌, ◌^◌}
 use Rattle.std.specs.Prelude.{min}
 use Rattle.distances.proofs.Layered.{first_layer, layer_after, layer_within, capacities_complete}
 use Rattle.distances.proofs.layers.search.Goals as goal
@@ -7,14 +7,11 @@ pub loop-start-init : goal.loop-start-init
 loop-start-init g c = record {
   depth = 1;
   some = omega arith;
-  counted = omega (arith, ap length c.entries.ensures.all, c.entries.ensures.table.some);
+  counted = omega arith;
   layered = first_layer c.args.level c.requires.unseen (rw c.requires.empty at c.reach_seeds.ensures.reached) c.at.ensures.entry;
   room = c.reach_seeds.ensures.room;
   reserved = c.reach_seeds.ensures.reserved;
 }
-
-pub overflow_add-distance : goal.overflow_add-distance
-overflow_add-distance g c = omega (arith, ap length c.entries.ensures.all, c.entries.ensures.table.few)
 
 pub expand_layer-requires-clause-accounts : goal.expand_layer-requires-clause-accounts
 expand_layer-requires-clause-accounts g c = λ i from before. layer_within c.loop-start.invariant.layered i from (omega (arith, c.loop-start.queue.ok.0))
@@ -22,13 +19,13 @@ expand_layer-requires-clause-accounts g c = λ i from before. layer_within c.loo
 pub loop-start-preserved : goal.loop-start-preserved
 loop-start-preserved g c =
     let loop = c.loop-start in
-    let depth : ℕ = loop.invariant.depth in
-    let counted : c.min-distance.result ≡ min (length c.entries.result.now) (depth + 1) = omega (arith, loop.invariant.counted, c.min-distance.ensures) in
+    let at = c.at-in-loop-start.ensures in
+    let counted : c.saturating_add-distance.result ≡ min (loop.invariant.depth + 1) (2 ^ 32 - 1) = omega (arith, loop.invariant.counted, c.saturating_add-distance.ensures) in
     record {
-      depth = depth + 1;
+      depth = loop.invariant.depth + 1;
       some = omega arith;
       counted = counted;
-      layered = layer_after loop.invariant.layered loop.invariant.some c.expand_layer.ensures.reached (omega (arith, loop.queue.ok.0)) (rw (ap length c.entries.ensures.all) at counted) c.at-in-loop-start.ensures.entry;
+      layered = layer_after loop.invariant.layered (omega (arith, at.table.few)) loop.invariant.some c.expand_layer.ensures.reached (omega (arith, loop.queue.ok.0)) counted at.entry;
       room = c.expand_layer.ensures.room;
       reserved = c.expand_layer.ensures.reserved ∙ loop.invariant.reserved;
     }
