@@ -5,17 +5,19 @@ use Rattle.std.proofs.lemmas.Bool.{cases_lt, le-ltb}
 use Rattle.trust_types.specs.declared.levels.Level.{Level}
 use Rattle.trust_types.specs.declared.accounts.Node.{Node}
 use Rattle.trust_types.specs.declared.accounts.Node.TheVariants.{Root, Account}
-use Rattle.trust_types.specs.Graph.{Certificates, HasEdge, Walk, IsDistance, IsUnreached}
-use Rattle.trust_types.specs.Capacity.{entry, IsCapacity, AreCapacities, cap_by}
-use Rattle.trust_types.proofs.Walks.{walk_longer, walk-last, walk-root, distance-root, distance_unique}
+use Rattle.trust_types.specs.Graph.{Certificates, HasEdge, Walk, IsDistance}
+use Rattle.trust_types.specs.Capacity.{entry, AreCapacities, cap_by}
+use Rattle.trust_types.proofs.Walks.{walk_longer, walk-last, walk-root, walk-within, distance-root, distance_unique}
 use Rattle.distances.specs.Reached.{IsNew, Reaches, IsSeed, IsCertifiedFrom}
 use Rattle.distances.proofs.Reaching.{seen_or_not}
 
--- a table has one entry from its end on, so a distance may stop there
-pub entry-min : (table : List ℕ) (n most : ℕ) → length table ≤ most → entry table (min n most) ≡ entry table n
-entry-min table n most past = elim (cases_lt n most) [
-  | inl below ↦ let same : min n most ≡ n = omega arith in ap (entry table) same
-  | inr above ↦ let same : min n most ≡ most = omega arith in ap (entry table) same ∙ rw (le-ltb most (length table) past, le-ltb n (length table) (omega arith))
+-- a table has one entry from its end on
+pub entry-min : (table : List ℕ) (n : ℕ) → entry table (min (length table) n) ≡ entry table n
+entry-min table n = elim (cases_lt n (length table)) [
+  | inl within ↦ let same : min (length table) n ≡ n = omega arith in ap (entry table) same
+  | inr past ↦
+      let same : min (length table) n ≡ length table = omega arith in
+      ap (entry table) same ∙ rw (le-ltb (length table) (length table) (omega arith), le-ltb n (length table) past)
 ]
 
 -- The accounts within a distance are reached, each with its capacity; those at that very distance stand in the queue from a place on.
@@ -28,6 +30,11 @@ pub record IsLayered (g : Certificates) (level : Level) (table : List ℕ) (dist
 -- An edge leads to the account from a node at the distance.
 abbrev pub IsNext : Certificates → Level → ℕ → ℕ → Type 0
 IsNext g level distance b = (x : Node) × IsDistance g level x distance × HasEdge g level x b
+
+-- only accounts of the graph stand in a layer
+pub layer-within : (g : Certificates) (level : Level) (table : List ℕ) (d start : ℕ) (out queue : List ℕ) → IsLayered g level table d start out queue →
+    (i : ℕ) → start ≤ i → i < length queue → slice_index queue i < g.accounts
+layer-within g level table d start out queue layered i from before = walk-within g level d (slice_index queue i) (layered.layer i from before).walk
 
 -- the end of a walk as long as the distance is at that distance, or nearer
 at_distance_or_nearer : (g : Certificates) (level : Level) (table : List ℕ) (d start : ℕ) (out queue : List ℕ) → IsLayered g level table d start out queue →

@@ -1,9 +1,9 @@
 //! A search through the graph by layers: the accounts of one distance after those of the distance before.
 
-ghost use Rattle.std.specs.Prelude.{ℕ, ◌≡◌, ◌≢◌, ◌<◌, ◌≤◌, List, [], length, slice_index, vec_len, vec_capacity};
+ghost use Rattle.std.specs.Prelude.{ℕ, ◌≡◌, ◌<◌, ◌≤◌, List, [], length, slice_index, vec_len, vec_capacity};
 ghost use Rattle.trust_types.specs.declared.accounts.Node.TheVariants.{Account};
 ghost use Rattle.trust_types.specs.Graph.{HasEdge};
-ghost use Rattle.trust_types.specs.Levels.{rank};
+ghost use Rattle.trust_types.specs.Levels.{IsGrade, rank};
 ghost use Rattle.trust_types.specs.Rows.{GivesEachOnce};
 ghost use Rattle.trust_types.specs.Capacity.{entry, AreCapacities, cap_by};
 ghost use Rattle.distances.specs.Reached.{Reaches, HasRoom, IsSeed, IsCertifiedFrom};
@@ -19,9 +19,8 @@ fn reach(account: AccountNo, capacity: u32, out: &mut [u32], queue: &mut Vec<Acc
     ensures room { HasRoom out.new queue.new }
     ensures reserved { vec_capacity queue.new ≡ vec_capacity queue.old }
 {
-    let place = account.0 as usize;
-    if out[place] == 0 {
-        out[place] = capacity;
+    if out[account.index()] == 0 {
+        out[account.index()] = capacity;
         queue.push_reserved(account);
     }
 }
@@ -73,7 +72,7 @@ fn expand<G: CertGraph>(
     out: &mut [u32],
     queue: &mut Vec<AccountNo>,
 )
-    requires grade { level ≢ Level.Observer }
+    requires grade { IsGrade level }
     requires readers { GivesEachOnce (G.certificates graph.now) (G.degree_of graph.now) (G.cert_of graph.now) }
     requires account { account < (G.certificates graph.now).accounts }
     requires places { length out.old ≡ (G.certificates graph.now).accounts }
@@ -98,7 +97,7 @@ fn expand_layer<G: CertGraph>(
     out: &mut [u32],
     queue: &mut Vec<AccountNo>,
 )
-    requires grade { level ≢ Level.Observer }
+    requires grade { IsGrade level }
     requires readers { GivesEachOnce (G.certificates graph.now) (G.degree_of graph.now) (G.cert_of graph.now) }
     requires start { start ≤ vec_len queue.old }
     requires accounts { (i : ℕ) → start ≤ i → i < vec_len queue.old → slice_index queue.old.items i < (G.certificates graph.now).accounts }
@@ -123,7 +122,7 @@ pub fn search<G: CertGraph>(
     out: &mut [u32],
     queue: &mut Vec<AccountNo>,
 )
-    requires grade { level ≢ Level.Observer }
+    requires grade { IsGrade level }
     requires places { length out.old ≡ (G.certificates graph.now).accounts }
     requires unseen { (b : ℕ) → slice_index out.old b ≡ 0 }
     requires empty { queue.old.items ≡ [] }
@@ -131,14 +130,15 @@ pub fn search<G: CertGraph>(
     ensures capacities { AreCapacities (G.certificates graph.now) level caps.now (cap_by (entry caps.now 0) out.new) }
     ensures reserved { vec_capacity queue.new ≡ vec_capacity queue.old }
 {
-    reach_seeds(graph, graph.accounts(), caps.at(1), out, queue);
-    let mut distance: u32 = 0;
+    // From its end on a table has one entry, so distances aren't told apart there.
+    let end_of_table = caps.entries().len() as u32;
+    let mut distance = 1;
+    reach_seeds(graph, graph.accounts(), caps.at(distance), out, queue);
     let mut start = 0;
     while start < queue.len() {
         let end = queue.len();
-        distance += 1;
-        let capacity = caps.at(distance.saturating_add(1));
-        expand_layer(graph, level, start, capacity, out, queue);
+        distance = end_of_table.min(distance + 1);
+        expand_layer(graph, level, start, caps.at(distance), out, queue);
         start = end;
     }
 }

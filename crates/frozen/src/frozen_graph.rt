@@ -1,7 +1,8 @@
 ghost use Rattle.std.specs.Prelude.{◌≡◌, ◌<◌, ◌≤◌, ℕ, length, vec_len, slice_get, All, IfOk, Some};
 ghost use Rattle.trust_types.specs.Certs.{CanStand};
 ghost use Rattle.trust_types.specs.NameLists.{AreApart, number_of};
-ghost use Rattle.trust_types.specs.Layout.{certificates as certificates_of};
+ghost use Rattle.trust_types.specs.Sum.{sum_below};
+ghost use Rattle.trust_types.specs.Layout.{certificates as certificates_of, degree};
 ghost use Rattle.frozen.specs.Revision.{Freezes, certificates};
 
 use std::alloc::Global;
@@ -91,9 +92,11 @@ impl Frozen {
         self.names.find(name)
     }
 
-    /// How many certificates stand.
+    /// How many certificates stand, of all that the accounts give. There are at most 2,000,000.
     pub fn certs(&self) -> u32
-        ensures { result ≡ length self.now.rows.takers }
+        ensures value { result ≡ length self.now.rows.takers }
+        ensures sum { result ≡ sum_below (certificates self.now).accounts (degree self.now.rows) }
+        ensures few { result ≤ 2000000 }
     {
         self.graph.certs()
     }
@@ -101,6 +104,7 @@ impl Frozen {
 
 impl CertGraph for Frozen {
     ghost use Rattle.trust_types.specs.Layout.{degree, given};
+    ghost use Rattle.trust_types.specs.Rows.{GivesEachOnce};
     ghost use Rattle.frozen.specs.Revision.{certificates};
 
     ghost certificates = { certificates };
@@ -109,7 +113,12 @@ impl CertGraph for Frozen {
 
     ghost cert_of = { λ r. given r.rows };
 
-    fn accounts(&self) -> u32 {
+    /// At most 100,000.
+    fn accounts(&self) -> u32
+        ensures value { result ≡ (certificates self.now).accounts }
+        ensures readers { GivesEachOnce (certificates self.now) (degree self.now.rows) (given self.now.rows) }
+        ensures few { result ≤ 100000 }
+    {
         self.graph.accounts()
     }
 

@@ -1,4 +1,4 @@
-//! The outside world as the metric's programs see it: traits that tell their causes, forms in memory, and the machine's.
+//! The outside world: traits whose failures have a cause, their forms in memory, and the machine's.
 #![tactic(auto)]
 
 mod calls;
@@ -15,7 +15,7 @@ mod writing;
 pub use failed::Failed;
 pub use mem_sink::MemSink;
 pub use mem_source::MemSource;
-pub use reading::{ReadFault, read_to_end};
+pub use reading::{InputFault, read_to_end};
 pub use sink::Sink;
 pub use source::Source;
 pub use standard::{StdSink, StdSource};

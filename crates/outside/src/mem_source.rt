@@ -1,8 +1,9 @@
-ghost use Rattle.std.specs.Prelude.{◌≡◌, ◌↔◌, ◌==◌, ◌<◌, ◌≤◌, if◌then◌else◌, min, Some, length, take, drop, is_err, IsErr, IfOk, OnErr};
+ghost use Rattle.std.specs.Prelude.{◌≡◌, ◌↔◌, ◌<◌, ◌≤◌, Some, length, take, is_err, IsErr, IfOk, OnErr};
 ghost use Rattle.std.specs.Io.KnownBytes.{IsAtEnd};
 ghost use Rattle.outside.specs.Bytes.{TakesBytes, CountsEnds};
-ghost use Rattle.outside.specs.Calls.{IsToFail, no_calls, with_served, with_failed};
-ghost use Rattle.outside.specs.Causes.{HasCause, one_more};
+ghost use Rattle.outside.specs.Calls.{IsToFail};
+ghost use Rattle.outside.specs.Causes.{HasCause};
+ghost use Rattle.outside.specs.Memory.{new_feed, given_count, after_read, after_failed_read};
 
 use crate::calls::Calls;
 use crate::counts::Count;
@@ -10,7 +11,7 @@ use crate::failed::Failed;
 use crate::source::Source;
 use std::marker::Model;
 
-/// A source of bytes in memory, some of whose reads fail.
+/// A source of bytes in memory, some of whose reads fail. Contracts see a `Feed`.
 #[derive(Drop)]
 pub struct MemSource {
     bytes: Vec<u8>,
@@ -26,17 +27,22 @@ impl Model for MemSource {
 
     ghost Value = { Feed };
 
-    ghost view = { λ s. record { left = drop s.at s.bytes.items; piece = s.piece; calls = s.calls; ends = s.ends } };
+    ghost view = { λ s. record {
+      left = drop s.at s.bytes.items;
+      piece = s.piece;
+      calls = s.calls;
+      ends = s.ends;
+    } };
 
     ghost invariant = { λ s. (s.at ≤ vec_len s.bytes) × (1 ≤ s.piece) };
 }
 
 impl MemSource {
-    /// A source of these bytes, which gives at most `piece` of them at a read. Its reads are numbered
-    /// from 0, and those with a number in `fails` fail. It takes no memory.
+    /// A source of these bytes, which gives at most `piece` of them at a read. Its reads are
+    /// numbered from 0, and those with a number in `fails` fail. It takes no memory.
     pub fn new(bytes: Vec<u8>, piece: usize, fails: Vec<u64>) -> MemSource
         requires { 1 ≤ piece }
-        ensures { result ≡ record { left = bytes.items; piece = piece; calls = no_calls fails.items; ends = 0 } }
+        ensures { result ≡ new_feed bytes.items piece fails.items }
     {
         MemSource {
             bytes,
@@ -55,7 +61,7 @@ impl Source for MemSource {
 
     ghost left = { λ s. Some s.left };
 
-    /// Gives as many bytes as a piece has, as are left and as `into` has places for, whichever is least.
+    /// Gives as many bytes as a piece has, as are left and as `into` has places, whichever is least.
     fn read(&mut self, into: &mut [u8]) -> Result<usize, Failed>
         requires { 0 < length into.old }
 
@@ -68,14 +74,10 @@ impl Source for MemSource {
 
         // What this one does.
         ensures fails { IsErr result ↔ IsToFail self.old.calls }
-        ensures given { IfOk result (λ n. n ≡ min self.old.piece (min (length into.old) (length self.old.left))) }
+        ensures given { IfOk result (λ n. n ≡ given_count self.old (length into.old)) }
         ensures front { IfOk result (λ n. take n into.new ≡ take n self.old.left) }
-        ensures ok { IfOk result (λ n. self.new ≡ record self.old {
-          left = drop n self.old.left;
-          calls = with_served self.old.calls;
-          ends = if n == 0 then one_more self.old.ends else self.old.ends;
-        }) }
-        ensures err { OnErr result (self.new ≡ record self.old { calls = with_failed self.old.calls }) }
+        ensures ok { IfOk result (λ n. self.new ≡ after_read self.old n) }
+        ensures err { OnErr result (self.new ≡ after_failed_read self.old) }
     {
         self.calls.count(true)?;
         let rest = &self.bytes[self.at..];

@@ -16,9 +16,9 @@ pub trait Source: Drop {
     /// The bytes that are left to read, where the source tells them.
     ghost left: { Self → Option (List ℕ) };
 
-    /// Takes the next bytes that are left, at most as many as `into` has places, and puts them into its
-    /// first places. It answers how many, and `Ok(0)` only at the end of input. `Failed` comes where the
-    /// source had a fault, and takes no byte.
+    /// Takes the next bytes that are left, at most as many as `into` has places, and puts them into
+    /// the first places. It answers how many, and `Ok(0)` only at the end of input. `Failed` comes
+    /// where the source had a fault, and takes no byte.
     fn read(&mut self, into: &mut [u8]) -> Result<usize, Failed>
         requires { 0 < length into.old }
         ensures bound { IfOk result (λ n. n ≤ length into.new) }

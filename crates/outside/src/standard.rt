@@ -10,7 +10,8 @@ use std::io;
 use std::io::{ErrorKind, Read, Stdin, Stdout, Write};
 use std::marker::Model;
 
-/// The standard input. A read that a signal interrupts is tried again; any other error is a fault.
+/// The standard input. A read that a signal interrupts is tried again. Any other error is a fault.
+/// Contracts see the counts.
 #[derive(Drop)]
 pub struct StdSource {
     stdin: Stdin,
@@ -62,8 +63,9 @@ impl Source for StdSource {
     }
 }
 
-/// The standard output. A write that a signal interrupts is tried again; any other error is a fault, also
-/// one of the flush after a write, and a write that takes nothing. Contracts see the count of faults.
+/// The standard output. A write that a signal interrupts is tried again. Any other error is a fault,
+/// and so are an error of the flush after a write and a write that takes nothing. Contracts see the
+/// count of faults.
 #[derive(Drop)]
 pub struct StdSink {
     stdout: Stdout,
@@ -95,7 +97,7 @@ impl Sink for StdSink {
 
     ghost held = { λ _. None };
 
-    /// It flushes after each write. Where the flush fails, the bytes may have gone out all the same.
+    /// It flushes after each write. Where a flush fails, the bytes may have gone out all the same.
     fn write(&mut self, piece: &[u8]) -> Result<usize, Failed> {
         match write_and_flush(&mut self.stdout, piece) {
             Ok(n) if n > 0 => Ok(n),
@@ -137,7 +139,7 @@ fn write_and_flush<W: Write>(writer: &mut W, piece: &[u8]) -> io::Result<usize>
     Err(ErrorKind::Interrupted.into())
 }
 
-// What the machine gives and takes is not known here. The answer and the counts agree, whatever it is.
+// What the machine gives and takes is not known here. Whatever it is, answer and counts agree.
 #[cfg(test)]
 mod tests {
     use super::*;

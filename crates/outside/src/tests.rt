@@ -1,4 +1,4 @@
-use crate::{Failed, MemSink, MemSource, ReadFault, Sink, Source, read_to_end, write_all};
+use crate::{Failed, InputFault, MemSink, MemSource, Sink, Source, read_to_end, write_all};
 use std::test::Fail;
 
 const TEXT: [u8; 5] = *b"level";
@@ -29,7 +29,7 @@ fn a_source_gives_its_bytes_in_pieces(rt: HostRuntime) -> Result<(), Fail> {
 #[test]
 fn a_sink_takes_pieces_while_it_has_room(rt: HostRuntime) -> Result<(), Fail> {
     let alloc = rt.alloc();
-    // room, bytes a write, the writes that fail, what four writes of a text of five answer, and what is held
+    // room, bytes a write, the writes that fail, what four writes of five bytes answer, and what is held
     let rows: [(usize, usize, &[u64], [Result<usize, Failed>; 4], &[u8]); 3] = [
         (
             7,
@@ -71,14 +71,14 @@ fn a_text_is_written_whole_or_up_to_a_fault(rt: HostRuntime) -> Result<(), Fail>
 fn an_input_is_read_to_its_end_or_up_to_the_limit(rt: HostRuntime) -> Result<(), Fail> {
     let alloc = rt.alloc();
     // length, bytes a read, limit, the reads that fail, and the fault
-    let rows: [(usize, usize, usize, &[u64], Option<ReadFault>); 7] = [
+    let rows: [(usize, usize, usize, &[u64], Option<InputFault>); 7] = [
         (0, 1, 0, &[], None),
         (300_000, 300_000, 300_000, &[], None),
         (300_000, 4_096, 300_001, &[], None),
-        (300_000, 70_000, 299_999, &[], Some(ReadFault::TooLong)),
-        (1, 1, 0, &[], Some(ReadFault::TooLong)),
-        (5, 2, 9, &[3], Some(ReadFault::Failed)),
-        (5, 2, 4, &[3], Some(ReadFault::TooLong)),
+        (300_000, 70_000, 299_999, &[], Some(InputFault::TooLong)),
+        (1, 1, 0, &[], Some(InputFault::TooLong)),
+        (5, 2, 9, &[3], Some(InputFault::Failed)),
+        (5, 2, 4, &[3], Some(InputFault::TooLong)),
     ];
     for (length, piece, limit, fails, fault) in rows {
         let mut bytes = vec![in alloc; 7; length]?;

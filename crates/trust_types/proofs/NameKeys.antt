@@ -50,10 +50,10 @@ digits_of-name_key name each =
     let long : length ds ≡ length name = length-map name digit_of in
     let all : take (length ds) ds ≡ ds = take-length ds in
     let good : (i : ℕ) → i < length ds → (0 < get_or ds i 0) × (get_or ds i 0 < 76) = λ i inside.
-      let within : i < length name = omega arith in
-      let digit : get_or ds i 0 ≡ digit_of (get_or name i 0) = get_or-map digit_of name i 0 0 within in
-      let range : (47 < get_or name i 0) × (get_or name i 0 < 123) = name_byte_digit (get_or name i 0) (AllPass-from_list_all is_name_byte name each i 0 within) in
-      (omega arith, omega arith) in
+    let within : i < length name = omega arith in
+    let digit : get_or ds i 0 ≡ digit_of (get_or name i 0) = get_or-map digit_of name i 0 0 within in
+    let range : (47 < get_or name i 0) × (get_or name i 0 < 123) = name_byte_digit (get_or name i 0) (AllPass-from_list_all is_name_byte name each i 0 within) in
+    (omega arith, omega arith) in
     rw all at (digits_of-number ds good (length ds) (omega arith))
 
 -- Names with the same key are the same.

@@ -28,5 +28,5 @@ table entries =
     if slice_index entries (length entries - 1) == 1 then Ok entries else Err EndNotOne
 
 -- The table that a site has unless it is told another.
-abbrev pub standard : List ℕ
-standard = 800 ∷ 200 ∷ 50 ∷ 12 ∷ 4 ∷ 2 ∷ 1 ∷ []
+abbrev pub standard_table : List ℕ
+standard_table = 800 ∷ 200 ∷ 50 ∷ 12 ∷ 4 ∷ 2 ∷ 1 ∷ []

@@ -2,7 +2,8 @@
 
 ghost use Rattle.std.specs.Prelude.{◌≡◌, ◌<◌, ◌≤◌, ◌+◌, IfOk, All, AllPairs, length, map};
 ghost use Rattle.trust_types.specs.Certs.{CanStand, IsMadeOf, IsBefore};
-ghost use Rattle.trust_types.specs.Layout.{certificates, AreFlags, AreStarts, SplitsAt};
+ghost use Rattle.trust_types.specs.Sum.{sum_below};
+ghost use Rattle.trust_types.specs.Layout.{accounts, certificates, degree, AreFlags, AreStarts, SplitsAt};
 
 use crate::accounts::AccountNo;
 use crate::graphs::{Cert, CertGraph};
@@ -47,9 +48,11 @@ impl CertList {
         Ok(rows(alloc, accounts, &seeds, &certs)?)
     }
 
-    /// How many certificates there are.
+    /// How many certificates there are, of all that the accounts give. There are at most 2,000,000.
     pub fn certs(&self) -> u32
-        ensures { result ≡ length self.now.takers }
+        ensures value { result ≡ length self.now.takers }
+        ensures sum { result ≡ sum_below (accounts self.now) (degree self.now) }
+        ensures few { result ≤ 2000000 }
     {
         self.takers.len() as u32
     }
@@ -130,6 +133,7 @@ fn levels_of(alloc: Global, certs: &[Cert]) -> Result<Vec<Level>, AllocError>
 
 impl CertGraph for CertList {
     ghost use Rattle.trust_types.specs.Layout.{certificates, degree, given};
+    ghost use Rattle.trust_types.specs.Rows.{GivesEachOnce};
 
     ghost certificates = { certificates };
 
@@ -137,7 +141,12 @@ impl CertGraph for CertList {
 
     ghost cert_of = { given };
 
-    fn accounts(&self) -> u32 {
+    /// At most 100,000.
+    fn accounts(&self) -> u32
+        ensures value { result ≡ (certificates self.now).accounts }
+        ensures readers { GivesEachOnce (certificates self.now) (degree self.now) (given self.now) }
+        ensures few { result ≤ 100000 }
+    {
         self.seeds.len() as u32
     }
 

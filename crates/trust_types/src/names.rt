@@ -1,10 +1,11 @@
-ghost use Rattle.std.specs.Prelude.{ℕ, List, ◌≡◌, ◌↔◌, Some, None, nat_eq, refl, if◌then◌else◌};
+ghost use Rattle.std.specs.Prelude.{ℕ, List, ◌≡◌, ◌↔◌, Some, None, refl, if◌then◌else◌};
 ghost use Rattle.std.specs.Ordering.{nat_cmp};
 ghost use Rattle.std.specs.Cmp.{partial_equiv_from_equiv};
-ghost use Rattle.std.specs.Cmp.Lexicographic.{pointwise, slice_cmp, nat_list_eq_equiv, nat_list_cmp_total, texts_po, texts_ties};
+ghost use Rattle.std.specs.Cmp.Lexicographic.{slice_cmp, nat_list_eq_equiv, nat_list_cmp_total, texts_po, texts_ties};
 ghost use Rattle.std.specs.Cmp.Rules.{hashing};
 ghost use Rattle.std.specs.Hash as fed;
 ghost use Rattle.std.specs.List.{list_all};
+ghost use Rattle.std.specs.Str.{bytes_eq};
 ghost use Rattle.std.proofs.Common.{rules};
 ghost use Rattle.trust_types.specs.Names.{IsName, is_name, is_name_byte, name_key};
 
@@ -84,13 +85,14 @@ impl Name {
         &self.bytes[..self.len as usize]
     }
 
-    /// A number by which maps look names up faster than by their bytes. Two names have the same one only where they
-    /// are the same.
+    /// A number that tells the name from every other, for maps: they look it up faster than the name itself. Numbers
+    /// don't stand in the order of the names.
     pub fn key(&self) -> u128
         ensures value { result ≡ name_key self.now }
         ensures name { IsName self.now }
         ensures apart { (other : List ℕ) → IsName other → (name_key other ≡ result) ↔ (other ≡ self.now) }
     {
+        // The bytes lie from 48 to 122: less 47 they are digits from 1 on, in base 76.
         let mut key = 0;
         for byte in self.bytes() {
             key = key * 76 + (*byte - 47) as u128;
@@ -102,6 +104,7 @@ impl Name {
     pub fn as_str(&self) -> &str
         ensures { result.now ≡ self.now }
     {
+        // SAFETY: the bytes of a name are ASCII.
         unsafe { str::from_utf8_unchecked(self.bytes()) }
     }
 }
@@ -121,7 +124,7 @@ impl fmt::Debug for Name {
 }
 
 impl PartialEq for Name {
-    ghost eq = { pointwise nat_eq };
+    ghost eq = { bytes_eq };
 
     ghost laws = { partial_equiv_from_equiv nat_list_eq_equiv };
 
@@ -197,7 +200,7 @@ mod tests {
         }
         let short = Name::read(b"ab").expect(&rt, "a name");
         let long = Name::read(b"ab0").expect(&rt, "a name");
-        assert!(rt; short < long && short != long);
+        assert!(rt; short < long && short != long && short.key() != long.key());
         assert_eq!(rt; long.to_string(rt.alloc())?.as_str(), "ab0");
         Ok(())
     }

@@ -1,6 +1,6 @@
 ghost use Rattle.std.specs.Prelude.{◌≡◌, ◌≤◌, ◌↔◌, ◌<◌, IsOk, nat_lt, length};
 ghost use Rattle.std.specs.List.{list_any};
-ghost use Rattle.trust_types.specs.Tables.{IsTable, rises, table, standard};
+ghost use Rattle.trust_types.specs.Tables.{IsTable, rises, table, standard_table};
 ghost use Rattle.trust_types.specs.Capacity.{entry};
 
 use std::marker::Model;
@@ -83,7 +83,7 @@ impl Caps {
     ///
     /// # Errors
     /// The first fault that they have, in the order of [`CapsFault`].
-    #[tactic(auto, using(crate::proofs::TableTests::passes_all, crate::proofs::TableTests::never_exceeds, crate::proofs::TableTests::never_rises))]
+    #[tactic(auto, using(crate::proofs::TableTests::table_tests))]
     pub fn read(entries: &[u32]) -> Result<Caps, CapsFault>
         ensures judged { result ≡ table entries.now }
         ensures accepted { IsOk result ↔ IsTable entries.now }
@@ -123,7 +123,7 @@ impl Caps {
 
     /// The table that a site has unless it is told another: 800, 200, 50, 12, 4, 2 and 1.
     pub fn standard() -> Caps
-        ensures { result ≡ standard }
+        ensures { result ≡ standard_table }
     {
         Caps::keep(&[800, 200, 50, 12, 4, 2, 1])
     }

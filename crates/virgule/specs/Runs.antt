@@ -8,7 +8,7 @@ use Rattle.virgule.specs.declared.status.Status.{Status}
 use Rattle.virgule.specs.declared.status.Status.TheVariants.{WriteFault}
 use Rattle.virgule.specs.declared.outcome.Outcome.{Outcome}
 use Rattle.virgule.specs.declared.outcome.Outcome.TheVariants.{Judged, Misused, Unreadable, TooLong, Unread, OutOfMemory}
-use Rattle.virgule.specs.Commands.{command_of, limit_of}
+use Rattle.virgule.specs.Commands.{limit_of}
 use Rattle.virgule.specs.Outcomes.{status_of, text_of}
 
 -- A source, by the bytes that it has left where it tells them, and by its counts of faults and of ends.

@@ -1,10 +1,12 @@
 //! The site engine as a program.
 #![tactic(auto)]
 
+mod canonical;
 mod command;
 mod outcome;
 mod run;
 mod status;
+mod unread;
 
 use outside::{StdSink, StdSource};
 use std::env;

@@ -1,4 +1,4 @@
-use Rattle.std.proofs.Common.{arith, ◌∙◌}
+use Rattle.std.proofs.Common.{◌∙◌}
 use Rattle.distances.proofs.Reaching.{IsGivenAt, reaches_next}
 use Rattle.distances.proofs.layers.expand.Goals as goal
 

@@ -1,4 +1,4 @@
-use Rattle.std.proofs.Common.{ℕ, ◌≡◌, vec_capacity}
+use Rattle.std.proofs.Common.{◌≡◌, vec_capacity}
 use Rattle.distances.specs.Reached.{Reaches, HasRoom}
 use Rattle.distances.proofs.Reaching.{IsAmong, IsCertifiedAt}
 use Rattle.distances.proofs.layers.expand_layer.Given as goal

@@ -1,4 +1,4 @@
-use Rattle.std.proofs.Common.{ℕ, ◌≡◌, arith}
+use Rattle.std.proofs.Common.{◌≡◌, arith}
 use Rattle.std.specs.Prelude.{slice_index}
 use Rattle.distances.proofs.Reaching.{room_for}
 use Rattle.distances.proofs.layers.reach.Goals as goal

@@ -11,6 +11,6 @@ loop-taken-preserved g c =
       holds = read.holds;
       within = read.within;
       left = prepend_known-take _ _ _ _ _ _ _ before.left read.front read.bytes;
-      ends = read.not_ended some ∙ before.ends;
+      ends = read.ends.1 some ∙ before.ends;
       faults = read.cause.stayed ∙ before.faults;
     }
