@@ -4,3 +4,4 @@ mod MissingEdge
 mod Values
 mod Adding
 mod Judging
+mod Most

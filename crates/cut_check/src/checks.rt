@@ -1,8 +1,8 @@
-ghost use Rattle.std.specs.Prelude.{◌≡◌, ◌<◌, ◌≤◌, ◌^◌, ◌==◌, length, vec_len, take, if◌then◌else◌};
+ghost use Rattle.std.specs.Prelude.{ℕ, ◌≡◌, ◌<◌, ◌≤◌, ◌^◌, ◌==◌, length, vec_len, take, if◌then◌else◌};
 ghost use Rattle.trust_types.specs.Layout.{accounts, certificates, degree, given};
 ghost use Rattle.trust_types.specs.Rows.{GivesEachOnce};
 ghost use Rattle.cut_check.specs.Line.{IsAmong};
-ghost use Rattle.cut_check.specs.Check.{IsVerdictOn};
+ghost use Rattle.cut_check.specs.Check.{IsVerdictOn, ServesMost};
 ghost use Rattle.cut_check.specs.Figures.{AreFigures};
 
 use crate::edges::{first_missing_edge, first_open_edge};
@@ -26,6 +26,7 @@ struct RootFigures {
 pub fn check(proof: &Proof, scratch: &mut Scratch) -> Verdict
     requires { accounts proof.now.graph ≤ scratch.old }
     ensures verdict { IsVerdictOn proof.now result }
+    ensures greatest { (n : ℕ) → result ≡ Verdict.Greatest n → ServesMost proof.now n }
     ensures among { IsAmong (accounts proof.now.graph) result }
     ensures room { scratch.new ≡ scratch.old }
 {
