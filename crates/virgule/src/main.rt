@@ -7,6 +7,8 @@ mod outcome;
 mod reports;
 mod run;
 mod status;
+#[cfg(test)]
+mod tests;
 mod unread;
 
 use outside::{StdSink, StdSource};
