@@ -8,6 +8,8 @@ mod proofs;
 mod scratch;
 mod sides;
 mod sums;
+#[cfg(test)]
+mod tests;
 mod verdicts;
 
 pub use checks::check;
