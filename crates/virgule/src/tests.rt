@@ -14,6 +14,10 @@ const FLOW: &str = "flow - raph 2\nflow raph alan 1\n";
 
 const CUT: &str = "pass -\nfull raph\n";
 
+/// Two seeds, each of which certifies two others.
+const TWO_SEEDS: &str =
+    "caps 9 2 1\naccount raph\naccount kim\naccount a\naccount b\naccount c\naccount d\nseed raph\nseed kim\ncert raph a Master\ncert raph b Master\ncert kim c Master\ncert kim d Master\nlevel Master\n";
+
 const EMPTY: &str = "caps 1\nlevel Master\nfull -\n";
 
 #[test]
@@ -59,6 +63,56 @@ fn a_text_gets_its_line_and_status(rt: HostRuntime) -> Result<(), Fail> {
             Status::No,
         ),
         (SITE, "flow - raph 1\n", CUT, "no match 1 2\n", Status::No),
+        // two places fail, and the lesser one is named; or two rules fail, and the earlier one is
+        (
+            SITE,
+            "flow - alan 2\nflow alan mia 1\n",
+            CUT,
+            "no edge - alan\n",
+            Status::No,
+        ),
+        (
+            SITE,
+            "flow - raph 3\nflow alan mia 1\n",
+            CUT,
+            "no edge alan mia\n",
+            Status::No,
+        ),
+        (
+            SITE,
+            "flow - raph 4\nflow raph alan 2\nflow raph mia 2\n",
+            CUT,
+            "no balance alan\n",
+            Status::No,
+        ),
+        (
+            TWO_SEEDS,
+            "flow - raph 3\nflow - kim 3\nflow raph a 1\nflow raph b 1\nflow kim c 1\nflow kim d 1\n",
+            "pass -\nfull raph\nfull kim\n",
+            "no room raph\n",
+            Status::No,
+        ),
+        (
+            TWO_SEEDS,
+            "flow - raph 2\nflow raph a 1\nflow raph b 1\n",
+            "pass -\nfull raph\nfull kim\n",
+            "no room raph\n",
+            Status::No,
+        ),
+        (
+            TWO_SEEDS,
+            "flow - raph 1\nflow - kim 1\nflow raph a 1\nflow kim c 1\n",
+            "pass -\n",
+            "no service raph\n",
+            Status::No,
+        ),
+        (
+            TWO_SEEDS,
+            "flow - raph 1\n",
+            "pass -\npass kim\n",
+            "no closure - raph\n",
+            Status::No,
+        ),
         ("", "", "", "fault\n", Status::Text),
         // an end without LF, CR, an empty line, two spaces, a space at the end
         (SITE, FLOW, "pass -\nfull raph", "fault\n", Status::Text),
@@ -180,7 +234,11 @@ fn a_text_gets_its_line_and_status(rt: HostRuntime) -> Result<(), Fail> {
         assert_eq!(rt; ended, status, "at {text}");
         assert_eq!(rt; written.as_slice(), line.as_bytes(), "at {text}");
         assert_eq!(rt; checked(alloc, &text, 7)?, (status, written), "at {text}");
-        assert_eq!(rt; checked(alloc, &text, 1)?, checked(alloc, &text, 7)?, "at {text}");
+        assert_eq!(rt;
+            checked(alloc, &text, 1)?,
+            checked(alloc, &text, 7)?,
+            "at {text}"
+        );
     }
     Ok(())
 }
