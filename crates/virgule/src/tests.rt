@@ -4,242 +4,152 @@ use crate::run::run;
 use crate::status::Status;
 use outside::{MemSink, MemSource};
 use std::alloc::Global;
+use std::process::Abort;
 use std::test::Fail;
 use trust_types::NoMemory;
 
 const SITE: &str =
     "caps 3 2 1\naccount raph\naccount alan\naccount mia\nseed raph\ncert raph alan Master\ncert raph mia Master\nlevel Master\n";
 
-const FLOW: &str = "flow - raph 2\nflow raph alan 1\n";
-
-const CUT: &str = "pass -\nfull raph\n";
+/// Flows and cuts of that site, and the verdict on each.
+const CLAIMS: [(&str, &str, Status); 10] = [
+    (
+        "flow - raph 2\nflow raph alan 1\npass -\nfull raph\n",
+        "greatest 2\n",
+        Status::Done,
+    ),
+    (
+        "flow - raph 2\nflow raph alan 1\nflow alan mia 1\npass -\nfull raph\n",
+        "no edge alan mia\n",
+        Status::No,
+    ),
+    (
+        "flow - raph 3\nflow raph alan 1\npass -\nfull raph\n",
+        "no balance raph\n",
+        Status::No,
+    ),
+    (
+        "flow - raph 3\nflow raph alan 1\nflow raph mia 1\npass -\nfull raph\n",
+        "no room -\n",
+        Status::No,
+    ),
+    (
+        "flow - raph 1\nflow raph alan 1\npass -\nfull raph\n",
+        "no service raph\n",
+        Status::No,
+    ),
+    (
+        "flow - raph 2\nflow raph alan 1\npass -\npass raph\n",
+        "no closure raph alan\n",
+        Status::No,
+    ),
+    (
+        "flow - raph 1\npass -\nfull raph\n",
+        "no match 1 2\n",
+        Status::No,
+    ),
+    // two pairs or accounts fail, and the lesser one is named; or two rules fail, and the earlier one is
+    (
+        "flow - alan 2\nflow alan mia 1\npass -\nfull raph\n",
+        "no edge - alan\n",
+        Status::No,
+    ),
+    (
+        "flow - raph 3\nflow alan mia 1\npass -\nfull raph\n",
+        "no edge alan mia\n",
+        Status::No,
+    ),
+    (
+        "flow - raph 4\nflow raph alan 2\nflow raph mia 2\npass -\nfull raph\n",
+        "no balance alan\n",
+        Status::No,
+    ),
+];
 
 /// Two seeds, each of which certifies two others.
 const TWO_SEEDS: &str =
     "caps 9 2 1\naccount raph\naccount kim\naccount a\naccount b\naccount c\naccount d\nseed raph\nseed kim\ncert raph a Master\ncert raph b Master\ncert kim c Master\ncert kim d Master\nlevel Master\n";
 
+/// Flows and cuts of that site where two nodes fail, or two rules, and what is told.
+const RIVALS: [(&str, &str); 4] = [
+    (
+        "flow - raph 3\nflow - kim 3\nflow raph a 1\nflow raph b 1\nflow kim c 1\nflow kim d 1\npass -\nfull raph\nfull kim\n",
+        "no room raph\n",
+    ),
+    (
+        "flow - raph 2\nflow raph a 1\nflow raph b 1\npass -\nfull raph\nfull kim\n",
+        "no room raph\n",
+    ),
+    (
+        "flow - raph 1\nflow - kim 1\nflow raph a 1\nflow kim c 1\npass -\n",
+        "no service raph\n",
+    ),
+    ("flow - raph 1\npass -\npass kim\n", "no closure - raph\n"),
+];
+
 const EMPTY: &str = "caps 1\nlevel Master\nfull -\n";
+
+/// Texts that are no canonical proof text.
+const FAULTY: [&str; 22] = [
+    "",
+    // no LF at the end, CR, an empty line, two spaces, a space at the end
+    "caps 1\nlevel Master\nfull -",
+    "caps 1\nlevel Master\r\nfull -\n",
+    "caps 1\n\nlevel Master\nfull -\n",
+    "caps  1\nlevel Master\nfull -\n",
+    "caps 1\nlevel Master\nfull - \n",
+    // numbers, tables, levels and names of another form
+    "caps 01\nlevel Master\nfull -\n",
+    "caps +1\nlevel Master\nfull -\n",
+    "caps\nlevel Master\nfull -\n",
+    "caps 2\nlevel Master\nfull -\n",
+    "caps 1\nlevel Observer\nfull -\n",
+    "caps 1\naccount Raph\nlevel Master\nfull -\n",
+    "caps 1\naccount raph\nlevel Master\nflow - raph 0\nfull -\n",
+    // a name that no account has, or two; a certificate for oneself
+    "caps 1\nlevel Master\nfull raph\nfull -\n",
+    "caps 1\naccount raph\naccount raph\nlevel Master\nfull -\n",
+    "caps 1\naccount raph\ncert raph raph Master\nlevel Master\nfull -\n",
+    // lines out of order
+    "caps 1\naccount a\naccount b\nseed b\nseed a\nlevel Master\nfull -\n",
+    "caps 1\naccount a\naccount b\naccount c\ncert a c Master\ncert a b Master\nlevel Master\nfull -\n",
+    "caps 1\naccount a\nlevel Master\nfull a\nfull -\n",
+    // the root in neither set and in both, and a line behind the last
+    "caps 1\nlevel Master\n",
+    "caps 1\nlevel Master\npass -\nfull -\n",
+    "caps 1\nlevel Master\nfull -\naccount raph\n",
+];
 
 #[test]
 fn a_text_gets_its_line_and_status(rt: HostRuntime) -> Result<(), Fail> {
     let alloc = rt.alloc();
-    // three parts of a text, the line that it gets, and the status
-    let rows = [
-        (SITE, FLOW, CUT, "greatest 2\n", Status::Done),
-        (EMPTY, "", "", "greatest 0\n", Status::Done),
-        (
-            SITE,
-            "flow - raph 2\nflow raph alan 1\nflow alan mia 1\n",
-            CUT,
-            "no edge alan mia\n",
-            Status::No,
-        ),
-        (
-            SITE,
-            "flow - raph 3\nflow raph alan 1\n",
-            CUT,
-            "no balance raph\n",
-            Status::No,
-        ),
-        (
-            SITE,
-            "flow - raph 3\nflow raph alan 1\nflow raph mia 1\n",
-            CUT,
-            "no room -\n",
-            Status::No,
-        ),
-        (
-            SITE,
-            "flow - raph 1\nflow raph alan 1\n",
-            CUT,
-            "no service raph\n",
-            Status::No,
-        ),
-        (
-            SITE,
-            FLOW,
-            "pass -\npass raph\n",
-            "no closure raph alan\n",
-            Status::No,
-        ),
-        (SITE, "flow - raph 1\n", CUT, "no match 1 2\n", Status::No),
-        // two places fail, and the lesser one is named; or two rules fail, and the earlier one is
-        (
-            SITE,
-            "flow - alan 2\nflow alan mia 1\n",
-            CUT,
-            "no edge - alan\n",
-            Status::No,
-        ),
-        (
-            SITE,
-            "flow - raph 3\nflow alan mia 1\n",
-            CUT,
-            "no edge alan mia\n",
-            Status::No,
-        ),
-        (
-            SITE,
-            "flow - raph 4\nflow raph alan 2\nflow raph mia 2\n",
-            CUT,
-            "no balance alan\n",
-            Status::No,
-        ),
-        (
-            TWO_SEEDS,
-            "flow - raph 3\nflow - kim 3\nflow raph a 1\nflow raph b 1\nflow kim c 1\nflow kim d 1\n",
-            "pass -\nfull raph\nfull kim\n",
-            "no room raph\n",
-            Status::No,
-        ),
-        (
-            TWO_SEEDS,
-            "flow - raph 2\nflow raph a 1\nflow raph b 1\n",
-            "pass -\nfull raph\nfull kim\n",
-            "no room raph\n",
-            Status::No,
-        ),
-        (
-            TWO_SEEDS,
-            "flow - raph 1\nflow - kim 1\nflow raph a 1\nflow kim c 1\n",
-            "pass -\n",
-            "no service raph\n",
-            Status::No,
-        ),
-        (
-            TWO_SEEDS,
-            "flow - raph 1\n",
-            "pass -\npass kim\n",
-            "no closure - raph\n",
-            Status::No,
-        ),
-        ("", "", "", "fault\n", Status::Text),
-        // an end without LF, CR, an empty line, two spaces, a space at the end
-        (SITE, FLOW, "pass -\nfull raph", "fault\n", Status::Text),
-        (SITE, FLOW, "pass -\r\nfull raph\n", "fault\n", Status::Text),
-        (SITE, FLOW, "pass -\n\nfull raph\n", "fault\n", Status::Text),
-        (
-            SITE,
-            "flow -  raph 2\nflow raph alan 1\n",
-            CUT,
-            "fault\n",
-            Status::Text,
-        ),
-        (SITE, FLOW, "pass -\nfull raph \n", "fault\n", Status::Text),
-        // numbers, tables, levels and names of another form
-        (
-            SITE,
-            "flow - raph 02\nflow raph alan 1\n",
-            CUT,
-            "fault\n",
-            Status::Text,
-        ),
-        (
-            SITE,
-            "flow - raph +2\nflow raph alan 1\n",
-            CUT,
-            "fault\n",
-            Status::Text,
-        ),
-        (
-            SITE,
-            "flow - raph 4294967296\n",
-            CUT,
-            "fault\n",
-            Status::Text,
-        ),
-        (SITE, "flow - raph 0\n", CUT, "fault\n", Status::Text),
-        (
-            "caps\n",
-            "level Master\n",
-            "full -\n",
-            "fault\n",
-            Status::Text,
-        ),
-        (
-            "caps 2\n",
-            "level Master\n",
-            "full -\n",
-            "fault\n",
-            Status::Text,
-        ),
-        (
-            "caps 1\n",
-            "level Observer\n",
-            "full -\n",
-            "fault\n",
-            Status::Text,
-        ),
-        (
-            "caps 1\naccount Raph\n",
-            "level Master\n",
-            "full -\n",
-            "fault\n",
-            Status::Text,
-        ),
-        // a name that no account has, or two; lines out of order, or twice
-        (SITE, "flow - kim 2\n", CUT, "fault\n", Status::Text),
-        (
-            "caps 1\naccount raph\naccount raph\n",
-            "level Master\n",
-            "full -\n",
-            "fault\n",
-            Status::Text,
-        ),
-        (
-            SITE,
-            "flow raph alan 1\nflow - raph 2\n",
-            CUT,
-            "fault\n",
-            Status::Text,
-        ),
-        (SITE, FLOW, "pass raph\npass -\n", "fault\n", Status::Text),
-        (SITE, FLOW, "pass -\npass -\n", "fault\n", Status::Text),
-        (
-            "caps 1\naccount raph\naccount alan\nseed alan\nseed raph\n",
-            "level Master\n",
-            "full -\n",
-            "fault\n",
-            Status::Text,
-        ),
-        (
-            "caps 1\naccount raph\naccount alan\naccount mia\ncert raph mia Master\ncert raph alan Master\n",
-            "level Master\n",
-            "full -\n",
-            "fault\n",
-            Status::Text,
-        ),
-        (
-            "caps 1\naccount raph\ncert raph raph Master\n",
-            "level Master\n",
-            "full -\n",
-            "fault\n",
-            Status::Text,
-        ),
-        // the root in neither set, a node in both, and a line too many
-        (SITE, FLOW, "pass raph\n", "fault\n", Status::Text),
-        (
-            SITE,
-            FLOW,
-            "pass -\npass raph\nfull raph\n",
-            "fault\n",
-            Status::Text,
-        ),
-        (EMPTY, "full -\n", "", "fault\n", Status::Text),
-        (EMPTY, "account raph\n", "", "fault\n", Status::Text),
-    ];
-    for (site, flow, cut, line, status) in rows {
-        let text = format!(in alloc; "{site}{flow}{cut}")?;
-        let (ended, written) = checked(alloc, &text, 65_536)?;
-        assert_eq!(rt; ended, status, "at {text}");
-        assert_eq!(rt; written.as_slice(), line.as_bytes(), "at {text}");
-        assert_eq!(rt; checked(alloc, &text, 7)?, (status, written), "at {text}");
-        assert_eq!(rt;
-            checked(alloc, &text, 1)?,
-            checked(alloc, &text, 7)?,
-            "at {text}"
-        );
+    for (claim, line, status) in CLAIMS {
+        let text = format!(in alloc; "{SITE}{claim}")?;
+        assert_told(&rt, &text, line, status)?;
     }
+    for (claim, line) in RIVALS {
+        let text = format!(in alloc; "{TWO_SEEDS}{claim}")?;
+        assert_told(&rt, &text, line, Status::No)?;
+    }
+    assert_told(&rt, EMPTY, "greatest 0\n", Status::Done)?;
+    for text in FAULTY {
+        assert_told(&rt, text, "fault\n", Status::Text)?;
+    }
+    Ok(())
+}
+
+/// Asserts that a run of `check` over the text writes this line and ends so, whatever the size of the pieces.
+fn assert_told<R: AllocGlobal + Abort>(
+    rt: &R,
+    text: &str,
+    line: &str,
+    status: Status,
+) -> Result<(), NoMemory> {
+    let told = checked(rt.alloc(), text, 65_536)?;
+    assert_eq!(rt; told.0, status, "at {text}");
+    assert_eq!(rt; told.1.as_slice(), line.as_bytes(), "at {text}");
+    assert_eq!(rt; checked(rt.alloc(), text, 7)?, told, "at {text}");
+    assert_eq!(rt; checked(rt.alloc(), text, 1)?, told, "at {text}");
     Ok(())
 }
 
