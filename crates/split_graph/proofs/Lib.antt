@@ -1,1 +1,8 @@
 pub mod Sums
+pub mod Counted
+pub mod Shapes
+pub mod Halves
+pub mod Feasible
+pub mod Saturated
+pub mod Ways
+pub mod Balance
