@@ -6,3 +6,6 @@ pub mod Feasible
 pub mod Saturated
 pub mod Ways
 pub mod Balance
+pub mod Units
+mod Lists
+mod Listed
