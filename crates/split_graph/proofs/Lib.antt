@@ -9,3 +9,4 @@ pub mod Balance
 pub mod Units
 mod Lists
 mod Listed
+mod Places
