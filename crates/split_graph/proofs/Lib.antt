@@ -10,3 +10,5 @@ pub mod Units
 mod Lists
 mod Listed
 mod Places
+mod Counts
+mod Loaded

@@ -450,3 +450,34 @@ pub no_self : (s : Listing) (a : ℕ) → HasEdge (certificates s.r) s.level (Ac
 no_self s a edge =
     let found = cert_of_edge (certificates s.r) (degree s.r) (given s.r) s.level a a s.readers s.grade edge in
     s.readers.others a found.0 edge.0 found.1 found.2
+
+seed_ends-zero : (r : Rows) (b : ℕ) → all_ends (seed_arcs r b) 0 ≡ 0
+seed_ends-zero r b = elim (slice_index_or r.seeds b false) as (λ (q : Bool). all_ends (if q then edge_arc Root b unbounded ∷ [] else []) 0 ≡ 0) [
+  | true ↦ omega (arith, all_ends-one (edge_arc Root b unbounded) 0, touches-none (edge_arc Root b unbounded) 0 (omega arith) (omega arith))
+  | false ↦ refl
+]
+
+row_ends-zero : (s : Listing) (a : ℕ) → all_ends (row_arcs s.r s.level a) 0 ≡ 0
+row_ends-zero s a =
+    all_ends-joined (degree s.r a) (cert_arcs s.r s.level a) 0
+    ∙ sum_below-none (degree s.r a) (λ i. all_ends (cert_arcs s.r s.level a i) 0)
+    (λ i within. all_ends-one (edge_arc (Account a) (taker s.r a i) (cert_capacity s.level (level_given s.r a i))) 0 ∙ touches-none (edge_arc (Account a) (taker s.r a i) (cert_capacity s.level (level_given s.r a i))) 0 (omega arith) (omega arith))
+
+-- only the arc through the root ends at its first half
+pub ends-root : (s : Listing) → all_ends (listed s) 0 ≡ 1
+ends-root s =
+    let owns_none : sum_below (size s) (λ a. all_ends (own_arcs (size s) s.caps a) 0) ≡ 0 =
+    sum_below-none (size s) (λ a. all_ends (own_arcs (size s) s.caps a) 0) (λ a below.
+    omega (arith, own_ends s a 0, touches-none (through_arc (Account a) (slice_index s.caps a)) 0 (omega arith) (omega arith), touches-none (end_arc (size s) a) 0 (omega arith) (omega arith))) in
+    let seeds_none : all_ends (seeds s) 0 ≡ 0 = all_ends-joined (size s) (seed_arcs s.r) 0 ∙ sum_below-none (size s) (λ b. all_ends (seed_arcs s.r b) 0) (λ b below. seed_ends-zero s.r b) in
+    let certs_none : all_ends (certs s) 0 ≡ 0 = all_ends-joined (size s) (row_arcs s.r s.level) 0 ∙ sum_below-none (size s) (λ a. all_ends (row_arcs s.r s.level a) 0) (λ a below. row_ends-zero s a) in
+    omega (
+      arith,
+      all_ends-append (((through_arc Root s.root ∷ []) ++ owns s) ++ seeds s) (certs s) 0,
+      all_ends-append ((through_arc Root s.root ∷ []) ++ owns s) (seeds s) 0,
+      top_ends s 0,
+      touches-from (through_arc Root s.root) 0 refl (omega arith),
+      owns_none,
+      seeds_none,
+      certs_none,
+    )

@@ -1,0 +1,127 @@
+-- The arrays that were laid out stand for the split graph.
+use Rattle.std.proofs.Common.{ℕ, ◌+◌, ◌*◌, ◌-◌, ◌^◌, ◌≡◌, ◌≢◌, ◌≤◌, ◌<◌, ◌⊎◌, inl, inr, refl, arith, ap, sym, subst, ◌∙◌, List, [], ◌∷◌, ◌++◌, length, get_or, IsTrue}
+use Rattle.trust_types.specs.declared.levels.Level.{Level}
+use Rattle.trust_types.specs.declared.accounts.Node.{Node}
+use Rattle.trust_types.specs.declared.accounts.Node.TheVariants.{Root, Account}
+use Rattle.trust_types.specs.Graph.{Certificates}
+use Rattle.trust_types.specs.Capacity.{AreCapacities, cap_by}
+use Rattle.trust_types.specs.Layout.{Rows, accounts, taker, level_given, certificates}
+use Rattle.split_graph.specs.declared.split_arcs.SplitArc.{SplitArc}
+use Rattle.split_graph.specs.Split.{first_half, second_half, node_count, IsNode, Rests, IsSplitGraph, unbounded}
+use Rattle.split_graph.specs.Arcs.{Arcs, AreArcs, LeadsTo, between}
+use Rattle.split_graph.specs.Moved.{RestsOf}
+use Rattle.split_graph.specs.SplitArcs.{through_arc, edge_arc, end_arc, cert_capacity}
+use Rattle.split_graph.specs.Layout.{Table, arc_at, ends_at, capacity_among, Joins, AreSplitArcs, IsLaidOut, IsArcAt, ArePlaced}
+use Rattle.split_graph.specs.Network.{seeds_before, IsTaker, AreInPlace}
+use Rattle.split_graph.proofs.Places.{first_more, place_of, placed_before}
+use Rattle.split_graph.proofs.Counts.{places-all}
+use Rattle.split_graph.proofs.Lists.{StandsAt, all_ends}
+use Rattle.split_graph.proofs.Listed.{Listing, listed, are_split_arcs, root_at, through_at, end_at, seed_at, cert_at, split_graph, ends-root}
+
+-- the arcs of a table
+abbrev pub arcs_in : ℕ → Table → Arcs
+arcs_in n t = record { accounts = n; first = t.first; head = t.head; twin = t.twin; rest = t.rest }
+
+-- what holds once all arcs were placed
+pub record Built : Type 0 where
+  pub n : ℕ
+  pub arcs : List SplitArc
+  pub t : Table
+  pub fits : n ≤ 100000
+  pub few : length arcs < 2 ^ 30
+  pub long : node_count n < length t.first
+  pub are : AreSplitArcs (node_count n) arcs
+  pub laid : IsLaidOut (node_count n) arcs t.first
+  pub placed : ArePlaced (node_count n) arcs (length arcs) t
+
+-- the node of each arc, and its facts
+arc_of_place : (b : Built) (e : ℕ) → e < get_or b.t.first (node_count b.n) 0 →
+    (v : ℕ) × (v < node_count b.n) × (get_or b.t.first v 0 ≤ e) × (e < get_or b.t.first (v + 1) 0) × IsArcAt (node_count b.n) b.arcs (length b.arcs) b.t v e
+arc_of_place b e below =
+    let v = place_of (node_count b.n) b.arcs b.t.first b.laid (node_count b.n) e (omega arith) below in
+    (v.0, v.1, v.2, v.3, b.placed.residual v.0 e v.1 v.2 (omega (arith, b.placed.next v.0 v.1, b.laid.goes_on v.0 v.1, v.3)))
+
+-- no two residual arcs have both ends in common
+simple_at : (b : Built) (v w d e : ℕ) → IsArcAt (node_count b.n) b.arcs (length b.arcs) b.t v d → IsArcAt (node_count b.n) b.arcs (length b.arcs) b.t w e →
+    v ≡ w → get_or b.t.head d 0 ≡ get_or b.t.head e 0 → d ≡ e
+simple_at b v w d e one other tail head =
+    let same : one.number ≡ other.number =
+    b.are.simple one.number other.number w (get_or b.t.head e 0) one.before other.before
+    (subst (λ (k : ℕ). Joins (arc_at b.arcs one.number) w k) head (subst (λ (u : ℕ). Joins (arc_at b.arcs one.number) u (get_or b.t.head d 0)) tail one.joins))
+    other.joins in
+    let place : ℕ → ℕ → ℕ = λ u k. get_or b.t.first u 0 + ends_at b.arcs k u in
+    one.at ∙ ap (λ (u : ℕ). place u one.number) tail ∙ ap (place w) same ∙ sym other.at
+
+pub are_arcs : (b : Built) → AreArcs (arcs_in b.n b.t)
+are_arcs b =
+    let nodes : ℕ = node_count b.n in
+    let first : List ℕ = b.t.first in
+    record {
+      few = omega (arith, b.few, places-all nodes b.arcs first b.are b.laid);
+      accounts_fit = b.fits;
+      first_long = b.long;
+      head_long = b.placed.head_long;
+      twin_long = b.placed.twin_long;
+      rest_long = b.placed.rest_long;
+      first_within = λ u le. first_more nodes b.arcs first b.laid u nodes le (omega arith);
+      head_within = λ e below. (arc_of_place b e below).4.within;
+      twin_within = λ e below.
+          let v = arc_of_place b e below in
+          let h : ℕ = get_or b.t.head e 0 in
+          omega (arith, v.4.twin_before, b.placed.next h v.4.within, b.laid.goes_on h v.4.within, first_more nodes b.arcs first b.laid (h + 1) nodes (omega (arith, v.4.within)) (omega arith));
+      twin_back = λ e below. (arc_of_place b e below).4.back;
+      apart = λ e below same. let v = arc_of_place b e below in v.4.apart (sym same ∙ v.4.turn);
+      simple = λ d e d_below e_below tail head.
+          let v = arc_of_place b d d_below in
+          let w = arc_of_place b e e_below in
+          simple_at b v.0 w.0 d e v.4 w.4 (sym v.4.turn ∙ tail ∙ w.4.turn) head;
+      from_first = λ e below. let v = arc_of_place b e below in omega (arith, ap (λ (i : ℕ). get_or first i 0) v.4.turn, v.2);
+      before_next = λ e below. let v = arc_of_place b e below in omega (arith, ap (λ (i : ℕ). get_or first (i + 1) 0) v.4.turn, v.3);
+      leaves = λ u e u_in from before. (b.placed.residual u e u_in from (omega (arith, b.placed.next u u_in, b.laid.goes_on u u_in))).turn;
+      room = λ e below. (arc_of_place b e below).4.fits;
+    }
+
+-- where an arc of the list is
+leads_to : (b : Built) (x : SplitArc) (i : ℕ) → x.from < node_count b.n → StandsAt b.arcs x i → LeadsTo (arcs_in b.n b.t) x.from x.to (get_or b.t.first x.from 0 + i)
+leads_to b x i below at =
+    let first : List ℕ = b.t.first in
+    let are : AreArcs (arcs_in b.n b.t) = are_arcs b in
+    let from_is : (arc_at b.arcs at.number).from ≡ x.from = ap (λ (y : SplitArc). y.from) at.is in
+    let before : get_or first x.from 0 + i < get_or first (x.from + 1) 0 = placed_before (node_count b.n) b.arcs first b.laid at.number x.from i at.within below from_is at.before in
+    let place : get_or first (arc_at b.arcs at.number).from 0 + ends_at b.arcs at.number (arc_at b.arcs at.number).from ≡ get_or first x.from 0 + i =
+    ap (λ (k : ℕ). get_or first k 0 + ends_at b.arcs at.number k) from_is ∙ ap (λ (k : ℕ). get_or first x.from 0 + k) at.before in
+    record {
+      within = omega (arith, before, are.first_within (x.from + 1) (omega arith));
+      tail = are.leaves x.from (get_or first x.from 0 + i) below (omega arith) before;
+      head = ap (λ (k : ℕ). get_or b.t.head k 0) (sym place) ∙ b.placed.at at.number at.within ∙ ap (λ (y : SplitArc). y.to) at.is;
+    }
+
+split_same : (g : Certificates) (level : Level) (cap : Node → ℕ) (c d : Rests) → IsSplitGraph g level cap c → ((x y : ℕ) → d x y ≡ c x y) → IsSplitGraph g level cap d
+split_same g level cap c d split same = record {
+  through = λ x is. same (first_half x) (second_half x) ∙ split.through x is;
+  ends = λ a below. same _ _ ∙ split.ends a below;
+  along = λ x b edge. same _ _ ∙ split.along x b edge;
+  only = λ u v some. split.only u v (omega (arith, same u v, some));
+}
+
+-- a table of the listed arcs
+pub record Loading : Type 0 where
+  pub s : Listing
+  pub b : Built
+  pub size : b.n ≡ accounts s.r
+  pub arcs : b.arcs ≡ listed s
+
+pub loaded : (l : Loading) → IsSplitGraph (certificates l.s.r) l.s.level (cap_by l.s.root l.s.caps) (between (arcs_in l.b.n l.b.t))
+loaded l =
+    let among : List SplitArc → ℕ → ℕ → ℕ = λ arcs. capacity_among arcs (length arcs) in
+    split_same (certificates l.s.r) l.s.level (cap_by l.s.root l.s.caps) (among (listed l.s)) (between (arcs_in l.b.n l.b.t)) (split_graph l.s)
+    (λ x y. l.b.placed.sums x y ∙ ap (λ (arcs : List SplitArc). among arcs x y) l.arcs)
+
+rests_of : (l : Loading) (table : List ℕ) → AreCapacities (certificates l.s.r) l.s.level table (cap_by l.s.root l.s.caps) → RestsOf (certificates l.s.r) l.s.level table (between (arcs_in l.b.n l.b.t))
+rests_of l table are = record {
+  cap = cap_by l.s.root l.s.caps;
+  capacity = between (arcs_in l.b.n l.b.t);
+  capacities = are;
+  split = loaded l;
+  both = λ u v. refl;
+}
