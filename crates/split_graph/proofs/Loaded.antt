@@ -125,3 +125,33 @@ rests_of l table are = record {
   split = loaded l;
   both = λ u v. refl;
 }
+
+leads_at : (l : Loading) (x : SplitArc) (i : ℕ) → x.from < node_count (accounts l.s.r) → StandsAt (listed l.s) x i → LeadsTo (arcs_in l.b.n l.b.t) x.from x.to (get_or l.b.t.first x.from 0 + i)
+leads_at l x i below at = leads_to l.b x i (omega (arith, below, l.size)) (subst (λ (arcs : List SplitArc). StandsAt arcs x i) (sym l.arcs) at)
+
+leads_first : (l : Loading) (x : SplitArc) → x.from < node_count (accounts l.s.r) → StandsAt (listed l.s) x 0 → LeadsTo (arcs_in l.b.n l.b.t) x.from x.to (get_or l.b.t.first x.from 0)
+leads_first l x below at =
+    let e : get_or l.b.t.first x.from 0 + 0 ≡ get_or l.b.t.first x.from 0 = omega arith in
+    subst (λ (i : ℕ). LeadsTo (arcs_in l.b.n l.b.t) x.from x.to i) e (leads_at l x 0 below at)
+
+through_place : (l : Loading) (x : Node) → IsNode (accounts l.s.r) x → LeadsTo (arcs_in l.b.n l.b.t) (first_half x) (second_half x) (get_or l.b.t.first (first_half x) 0)
+through_place l Root is = leads_first l (through_arc Root l.s.root) (omega arith) (root_at l.s)
+through_place l (Account a) is = leads_first l (through_arc (Account a) (get_or l.s.caps a 0)) (omega arith) (through_at l.s a is)
+
+along_place : (l : Loading) (x : Node) (i b : ℕ) → IsTaker l.s.r x i b → LeadsTo (arcs_in l.b.n l.b.t) (second_half x) (first_half (Account b)) (get_or l.b.t.first (second_half x) 0 + (i + 1))
+along_place l Root i b taken =
+    subst (λ (k : ℕ). LeadsTo (arcs_in l.b.n l.b.t) 1 (2 * b + 2) (get_or l.b.t.first 1 0 + (k + 1))) taken.2
+    (leads_at l (edge_arc Root b unbounded) (seeds_before l.s.r b + 1) (omega arith) (seed_at l.s b taken.0 taken.1))
+along_place l (Account a) i b taken =
+    subst (λ (k : ℕ). LeadsTo (arcs_in l.b.n l.b.t) (2 * a + 3) (2 * k + 2) (get_or l.b.t.first (2 * a + 3) 0 + (i + 1))) taken.2
+    (leads_at l (edge_arc (Account a) (taker l.s.r a i) (cert_capacity l.s.level (level_given l.s.r a i))) (i + 1) (omega (arith, taken.0)) (cert_at l.s a i taken.0 taken.1))
+
+pub in_place : (l : Loading) → AreInPlace l.s.r (arcs_in l.b.n l.b.t)
+in_place l = record {
+  through = through_place l;
+  only =
+      let all : List SplitArc → ℕ = λ arcs. all_ends arcs 0 in
+      omega (arith, l.b.laid.goes_on 0 (omega arith), ap all l.arcs, ends-root l.s);
+  ends = λ b below. leads_at l (end_arc (accounts l.s.r) b) 1 (omega arith) (end_at l.s b below);
+  along = along_place l;
+}
