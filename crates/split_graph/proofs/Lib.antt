@@ -12,3 +12,4 @@ mod Listed
 mod Places
 mod Counts
 mod Loaded
+mod Standing

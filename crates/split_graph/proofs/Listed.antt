@@ -1,5 +1,5 @@
 -- The listed arcs are those of the split graph.
-use Rattle.std.proofs.Common.{ℕ, zero, suc, Bool, true, false, ◌+◌, ◌*◌, ◌-◌, ◌^◌, ◌≡◌, ◌≢◌, ◌≤◌, ◌<◌, ◌⊎◌, inl, inr, refl, arith, ap, sym, subst, ◌∙◌, List, [], ◌∷◌, ◌++◌, length, get_or, if◌then◌else◌, IsTrue}
+use Rattle.std.proofs.Common.{ℕ, zero, suc, Bool, true, false, ◌+◌, ◌*◌, ◌-◌, ◌^◌, ◌≡◌, ◌≢◌, ◌≤◌, ◌<◌, ◌⊎◌, inl, inr, refl, arith, ap, sym, subst, ◌∙◌, List, [], ◌∷◌, ◌++◌, length, if◌then◌else◌, IsTrue}
 use Rattle.std.specs.Prelude.{All, AllPairs, slice_index, slice_index_or}
 use Rattle.std.proofs.lemmas.Bool.{cases_lt, cases_eq}
 use Rattle.std.proofs.lemmas.Bool.Decides.{nat_tests}
@@ -10,17 +10,17 @@ use Rattle.trust_types.specs.declared.accounts.Node.{Node}
 use Rattle.trust_types.specs.declared.accounts.Node.TheVariants.{Root, Account}
 use Rattle.trust_types.specs.Sum.{sum_below}
 use Rattle.trust_types.specs.Levels.{rank}
-use Rattle.trust_types.specs.Graph.{Certificates, HasEdge}
+use Rattle.trust_types.specs.Graph.{HasEdge}
 use Rattle.trust_types.specs.Capacity.{cap_by}
 use Rattle.trust_types.specs.Rows.{GivesEachOnce}
 use Rattle.trust_types.specs.Layout.{Rows, accounts, degree, taker, level_given, given, certificates}
 use Rattle.trust_types.proofs.Sums.{sum_below-eq}
 use Rattle.trust_types.proofs.Walks.{edge_of_cert, cert_of_edge}
 use Rattle.split_graph.specs.declared.split_arcs.SplitArc.{SplitArc}
-use Rattle.split_graph.specs.Split.{first_half, second_half, supersink, node_count, IsNode, unbounded, IsArc, IsSplitGraph}
+use Rattle.split_graph.specs.Split.{first_half, second_half, node_count, IsNode, unbounded, IsArc, IsSplitGraph}
 use Rattle.split_graph.specs.SplitArcs.{joined_below, through_arc, end_arc, own_arcs, edge_arc, seed_arcs, cert_capacity, cert_arcs, row_arcs, split_arcs}
 use Rattle.split_graph.specs.Layout.{no_arc, arc_at, touches, capacity_share, capacity_among, Joins, AreSplitArcs}
-use Rattle.split_graph.specs.Network.{seeds_before, IsTaker}
+use Rattle.split_graph.specs.Network.{seeds_before}
 use Rattle.split_graph.proofs.Sums.{sum_below-lone, sum_below-none, sum_below-some}
 use Rattle.split_graph.proofs.Units.{share_hit, share_miss, share_some}
 use Rattle.split_graph.proofs.Lists.{All-joined, AllPairs-append, AllPairs-joined, StandsAt, all_ends, all_ends-append, all_ends-joined, all_ends-one, all_ends-two, stands-left, stands-right, stands-joined}

@@ -1,18 +1,21 @@
 -- The arrays that were laid out stand for the split graph.
-use Rattle.std.proofs.Common.{ℕ, ◌+◌, ◌*◌, ◌-◌, ◌^◌, ◌≡◌, ◌≢◌, ◌≤◌, ◌<◌, ◌⊎◌, inl, inr, refl, arith, ap, sym, subst, ◌∙◌, List, [], ◌∷◌, ◌++◌, length, get_or, IsTrue}
+use Rattle.std.proofs.Common.{ℕ, ◌+◌, ◌*◌, ◌^◌, ◌≡◌, ◌≢◌, ◌≤◌, ◌<◌, inl, inr, refl, arith, ap, sym, subst, ◌∙◌, List, [], length, get_or}
 use Rattle.trust_types.specs.declared.levels.Level.{Level}
+use Rattle.trust_types.specs.declared.levels.Level.TheVariants.{Observer}
 use Rattle.trust_types.specs.declared.accounts.Node.{Node}
 use Rattle.trust_types.specs.declared.accounts.Node.TheVariants.{Root, Account}
 use Rattle.trust_types.specs.Graph.{Certificates}
 use Rattle.trust_types.specs.Capacity.{AreCapacities, cap_by}
-use Rattle.trust_types.specs.Layout.{Rows, accounts, taker, level_given, certificates}
+use Rattle.trust_types.specs.Rows.{GivesEachOnce}
+use Rattle.trust_types.specs.Layout.{degree, taker, level_given, given}
+use Rattle.frozen.specs.Revision.{Revision, certificates}
 use Rattle.split_graph.specs.declared.split_arcs.SplitArc.{SplitArc}
 use Rattle.split_graph.specs.Split.{first_half, second_half, node_count, IsNode, Rests, IsSplitGraph, unbounded}
 use Rattle.split_graph.specs.Arcs.{Arcs, AreArcs, LeadsTo, between}
-use Rattle.split_graph.specs.Moved.{RestsOf}
-use Rattle.split_graph.specs.SplitArcs.{through_arc, edge_arc, end_arc, cert_capacity}
+use Rattle.split_graph.specs.SplitArcs.{through_arc, edge_arc, end_arc, cert_capacity, split_arcs}
 use Rattle.split_graph.specs.Layout.{Table, arc_at, ends_at, capacity_among, Joins, AreSplitArcs, IsLaidOut, IsArcAt, ArePlaced}
-use Rattle.split_graph.specs.Network.{seeds_before, IsTaker, AreInPlace}
+use Rattle.split_graph.specs.Network.{Room, StandsFor, network, nothing, seeds_before, IsTaker}
+use Rattle.trust_types.proofs.Walks.{distance-root, walk-within}
 use Rattle.split_graph.proofs.Places.{first_more, place_of, placed_before}
 use Rattle.split_graph.proofs.Counts.{places-all}
 use Rattle.split_graph.proofs.Lists.{StandsAt, all_ends}
@@ -104,54 +107,97 @@ split_same g level cap c d split same = record {
   only = λ u v some. split.only u v (omega (arith, same u v, some));
 }
 
--- a table of the listed arcs
+-- a table of the arcs that were listed for a graph
 pub record Loading : Type 0 where
-  pub s : Listing
-  pub b : Built
-  pub size : b.n ≡ accounts s.r
-  pub arcs : b.arcs ≡ listed s
+  pub graph : Revision
+  pub level : Level
+  pub root : ℕ
+  pub caps : List ℕ
+  pub readers : GivesEachOnce (certificates graph) (degree graph.rows) (given graph.rows)
+  pub grade : level ≢ Observer
+  pub root_fits : root < 2 ^ 32
+  pub caps_fit : (a : ℕ) → get_or caps a 0 < 2 ^ 32
+  pub n : ℕ
+  pub arcs : List SplitArc
+  pub t : Table
+  pub size : n ≡ (certificates graph).accounts
+  pub fits : n ≤ 100000
+  pub few : length arcs < 2 ^ 30
+  pub listed : arcs ≡ split_arcs graph.rows level root caps
+  pub long : node_count n < length t.first
+  pub laid : IsLaidOut (node_count n) arcs t.first
+  pub placed : ArePlaced (node_count n) arcs (length arcs) t
 
-pub loaded : (l : Loading) → IsSplitGraph (certificates l.s.r) l.s.level (cap_by l.s.root l.s.caps) (between (arcs_in l.b.n l.b.t))
+abbrev pub listing : Loading → Listing
+listing l = record { r = l.graph.rows; level = l.level; root = l.root; caps = l.caps; readers = l.readers; grade = l.grade; root_fits = l.root_fits; fits = l.caps_fit }
+
+are_listed : (l : Loading) → AreSplitArcs (node_count l.n) l.arcs
+are_listed l =
+    subst (λ (k : ℕ). AreSplitArcs (node_count k) l.arcs) (sym l.size)
+    (subst (λ (arcs : List SplitArc). AreSplitArcs (node_count (certificates l.graph).accounts) arcs) (sym l.listed) (are_split_arcs (listing l)))
+
+abbrev built : Loading → Built
+built l = record { n = l.n; arcs = l.arcs; t = l.t; fits = l.fits; few = l.few; long = l.long; are = are_listed l; laid = l.laid; placed = l.placed }
+
+pub loaded : (l : Loading) → IsSplitGraph (certificates l.graph) l.level (cap_by l.root l.caps) (between (arcs_in l.n l.t))
 loaded l =
     let among : List SplitArc → ℕ → ℕ → ℕ = λ arcs. capacity_among arcs (length arcs) in
-    split_same (certificates l.s.r) l.s.level (cap_by l.s.root l.s.caps) (among (listed l.s)) (between (arcs_in l.b.n l.b.t)) (split_graph l.s)
-    (λ x y. l.b.placed.sums x y ∙ ap (λ (arcs : List SplitArc). among arcs x y) l.arcs)
+    split_same (certificates l.graph) l.level (cap_by l.root l.caps) (among (listed (listing l))) (between (arcs_in l.n l.t)) (split_graph (listing l))
+    (λ x y. l.placed.sums x y ∙ ap (λ (arcs : List SplitArc). among arcs x y) l.listed)
 
-rests_of : (l : Loading) (table : List ℕ) → AreCapacities (certificates l.s.r) l.s.level table (cap_by l.s.root l.s.caps) → RestsOf (certificates l.s.r) l.s.level table (between (arcs_in l.b.n l.b.t))
-rests_of l table are = record {
-  cap = cap_by l.s.root l.s.caps;
-  capacity = between (arcs_in l.b.n l.b.t);
-  capacities = are;
-  split = loaded l;
-  both = λ u v. refl;
-}
+leads_at : (l : Loading) (x : SplitArc) (i : ℕ) → x.from < node_count (certificates l.graph).accounts → StandsAt (listed (listing l)) x i → LeadsTo (arcs_in l.n l.t) x.from x.to (get_or l.t.first x.from 0 + i)
+leads_at l x i below at = leads_to (built l) x i (omega (arith, below, l.size)) (subst (λ (arcs : List SplitArc). StandsAt arcs x i) (sym l.listed) at)
 
-leads_at : (l : Loading) (x : SplitArc) (i : ℕ) → x.from < node_count (accounts l.s.r) → StandsAt (listed l.s) x i → LeadsTo (arcs_in l.b.n l.b.t) x.from x.to (get_or l.b.t.first x.from 0 + i)
-leads_at l x i below at = leads_to l.b x i (omega (arith, below, l.size)) (subst (λ (arcs : List SplitArc). StandsAt arcs x i) (sym l.arcs) at)
-
-leads_first : (l : Loading) (x : SplitArc) → x.from < node_count (accounts l.s.r) → StandsAt (listed l.s) x 0 → LeadsTo (arcs_in l.b.n l.b.t) x.from x.to (get_or l.b.t.first x.from 0)
+leads_first : (l : Loading) (x : SplitArc) → x.from < node_count (certificates l.graph).accounts → StandsAt (listed (listing l)) x 0 → LeadsTo (arcs_in l.n l.t) x.from x.to (get_or l.t.first x.from 0)
 leads_first l x below at =
-    let e : get_or l.b.t.first x.from 0 + 0 ≡ get_or l.b.t.first x.from 0 = omega arith in
-    subst (λ (i : ℕ). LeadsTo (arcs_in l.b.n l.b.t) x.from x.to i) e (leads_at l x 0 below at)
+    let e : get_or l.t.first x.from 0 + 0 ≡ get_or l.t.first x.from 0 = omega arith in
+    subst (λ (i : ℕ). LeadsTo (arcs_in l.n l.t) x.from x.to i) e (leads_at l x 0 below at)
 
-through_place : (l : Loading) (x : Node) → IsNode (accounts l.s.r) x → LeadsTo (arcs_in l.b.n l.b.t) (first_half x) (second_half x) (get_or l.b.t.first (first_half x) 0)
-through_place l Root is = leads_first l (through_arc Root l.s.root) (omega arith) (root_at l.s)
-through_place l (Account a) is = leads_first l (through_arc (Account a) (get_or l.s.caps a 0)) (omega arith) (through_at l.s a is)
+through_place : (l : Loading) (x : Node) → IsNode (certificates l.graph).accounts x → LeadsTo (arcs_in l.n l.t) (first_half x) (second_half x) (get_or l.t.first (first_half x) 0)
+through_place l Root is = leads_first l (through_arc Root l.root) (omega arith) (root_at (listing l))
+through_place l (Account a) is = leads_first l (through_arc (Account a) (get_or l.caps a 0)) (omega arith) (through_at (listing l) a is)
 
-along_place : (l : Loading) (x : Node) (i b : ℕ) → IsTaker l.s.r x i b → LeadsTo (arcs_in l.b.n l.b.t) (second_half x) (first_half (Account b)) (get_or l.b.t.first (second_half x) 0 + (i + 1))
+along_place : (l : Loading) (x : Node) (i b : ℕ) → IsTaker l.graph.rows x i b → LeadsTo (arcs_in l.n l.t) (second_half x) (first_half (Account b)) (get_or l.t.first (second_half x) 0 + (i + 1))
 along_place l Root i b taken =
-    subst (λ (k : ℕ). LeadsTo (arcs_in l.b.n l.b.t) 1 (2 * b + 2) (get_or l.b.t.first 1 0 + (k + 1))) taken.2
-    (leads_at l (edge_arc Root b unbounded) (seeds_before l.s.r b + 1) (omega arith) (seed_at l.s b taken.0 taken.1))
+    subst (λ (k : ℕ). LeadsTo (arcs_in l.n l.t) 1 (2 * b + 2) (get_or l.t.first 1 0 + (k + 1))) taken.2
+    (leads_at l (edge_arc Root b unbounded) (seeds_before l.graph.rows b + 1) (omega arith) (seed_at (listing l) b taken.0 taken.1))
 along_place l (Account a) i b taken =
-    subst (λ (k : ℕ). LeadsTo (arcs_in l.b.n l.b.t) (2 * a + 3) (2 * k + 2) (get_or l.b.t.first (2 * a + 3) 0 + (i + 1))) taken.2
-    (leads_at l (edge_arc (Account a) (taker l.s.r a i) (cert_capacity l.s.level (level_given l.s.r a i))) (i + 1) (omega (arith, taken.0)) (cert_at l.s a i taken.0 taken.1))
+    subst (λ (k : ℕ). LeadsTo (arcs_in l.n l.t) (2 * a + 3) (2 * k + 2) (get_or l.t.first (2 * a + 3) 0 + (i + 1))) taken.2
+    (leads_at l (edge_arc (Account a) (taker l.graph.rows a i) (cert_capacity l.level (level_given l.graph.rows a i))) (i + 1) (omega (arith, taken.0)) (cert_at (listing l) a i taken.0 taken.1))
 
-pub in_place : (l : Loading) → AreInPlace l.s.r (arcs_in l.b.n l.b.t)
-in_place l = record {
-  through = through_place l;
-  only =
-      let all : List SplitArc → ℕ = λ arcs. all_ends arcs 0 in
-      omega (arith, l.b.laid.goes_on 0 (omega arith), ap all l.arcs, ends-root l.s);
-  ends = λ b below. leads_at l (end_arc (accounts l.s.r) b) 1 (omega arith) (end_at l.s b below);
-  along = along_place l;
+pub stands : (l : Loading) (room : Room) → AreCapacities (certificates l.graph) l.level l.graph.caps (cap_by l.root l.caps) → StandsFor (network room l.graph l.level l.n l.t)
+stands l room capacities = record {
+  arcs = are_arcs (built l);
+  accounts = l.size;
+  places = record {
+    through = through_place l;
+    only =
+        let all : List SplitArc → ℕ = λ arcs. all_ends arcs 0 in
+        omega (arith, l.laid.goes_on 0 (omega arith), ap all l.listed, ends-root (listing l));
+    ends = λ b below. leads_at l (end_arc (certificates l.graph).accounts b) 1 (omega arith) (end_at (listing l) b below);
+    along = along_place l;
+  };
+  rests = record {
+    cap = cap_by l.root l.caps;
+    capacity = between (arcs_in l.n l.t);
+    capacities = capacities;
+    split = loaded l;
+    both = λ u v. refl;
+  };
 }
+
+-- nothing is given in a graph without accounts, and its root has no capacity
+pub nothing_given : GivesEachOnce (certificates nothing) (degree nothing.rows) (given nothing.rows)
+nothing_given = record {
+  giver = λ a i below within. absurd (omega arith);
+  taker = λ a i below within. absurd (omega arith);
+  others = λ a i below within. absurd (omega arith);
+  grade = λ a i below within. absurd (omega arith);
+  rises = λ a i j below less within. absurd (omega arith);
+  stands = λ a i below within. absurd (omega arith);
+  complete = λ a b below other some. absurd (omega arith);
+}
+
+pub no_capacities : (level : Level) → AreCapacities (certificates nothing) level [] (cap_by 0 [])
+no_capacities level Root = inl (0, distance-root (certificates nothing) level, refl)
+no_capacities level (Account a) = inr (λ n walk. omega (arith, walk-within (certificates nothing) level n a walk), refl)

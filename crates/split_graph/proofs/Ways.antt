@@ -27,7 +27,7 @@ out_of_other n before after p v w step not_start not_end =
     sum_below-eq (2 * n + 3) (after w) (before w)
     (λ y lt. step.same w y (λ same. absurd (not_start same)) (λ same. absurd (not_end same)))
 
-both_ways : (before after : Rests) (p v x y : ℕ) → IsOneMoved before after p v → p ≢ v →
+pub both_ways : (before after : Rests) (p v x y : ℕ) → IsOneMoved before after p v → p ≢ v →
     after x y + after y x ≡ before x y + before y x
 both_ways before after p v x y step apart =
     elim (cases_eq x p) [

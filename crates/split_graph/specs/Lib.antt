@@ -1,6 +1,6 @@
 pub mod Split
-pub mod Arcs
 pub mod Moved
-pub mod Network
-pub mod SplitArcs
+pub mod Arcs
 pub mod Layout
+pub mod SplitArcs
+pub mod Network

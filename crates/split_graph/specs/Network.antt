@@ -1,5 +1,5 @@
 -- What contracts see of a residual graph: the graph and the level that were loaded, and what rests of their split graph.
-use Rattle.std.specs.Prelude.{ℕ, Bool, ◌≡◌, ◌<◌, ◌≤◌, ◌+◌, if◌then◌else◌, List, [], length, slice_index_or, false, IsTrue}
+use Rattle.std.specs.Prelude.{ℕ, ◌≡◌, ◌<◌, ◌≤◌, ◌+◌, if◌then◌else◌, [], length, slice_index_or, false, IsTrue}
 use Rattle.trust_types.specs.declared.levels.Level.{Level}
 use Rattle.trust_types.specs.declared.accounts.Node.{Node}
 use Rattle.trust_types.specs.declared.accounts.Node.TheVariants.{Root, Account}
@@ -9,6 +9,7 @@ use Rattle.frozen.specs.Revision.{Revision, certificates}
 use Rattle.split_graph.specs.Split.{first_half, second_half, supersink, IsNode}
 use Rattle.split_graph.specs.Arcs.{Arcs, AreArcs, LeadsTo, first_of, between}
 use Rattle.split_graph.specs.Moved.{RestsOf}
+use Rattle.split_graph.specs.Layout.{Table}
 
 -- For how many accounts and certificates there is room.
 pub record Room : Type 0 where
@@ -22,6 +23,15 @@ pub record Network : Type 0 where
   pub graph : Revision
   pub level : Level
   pub arcs : Arcs
+
+-- The same, by the arrays.
+abbrev pub network : Room → Revision → Level → ℕ → Table → Network
+network room graph level accounts t = record {
+  room = room;
+  graph = graph;
+  level = level;
+  arcs = record { accounts = accounts; first = t.first; head = t.head; twin = t.twin; rest = t.rest };
+}
 
 -- There is room for the graph.
 pub record Fits (f : Revision) (room : Room) : Type 0 where

@@ -1,11 +1,10 @@
 -- The arcs of a split graph, one after another, as they are listed to be laid out. The contracts of the crate's own functions
 -- speak of this list; those of its public ones need none of it.
-use Rattle.std.specs.Prelude.{ℕ, zero, suc, ◌+◌, ◌-◌, ◌≤◌, nat_le, if◌then◌else◌, List, [], ◌∷◌, ◌++◌, slice_index, slice_index_or, false}
+use Rattle.std.specs.Prelude.{ℕ, zero, suc, ◌-◌, nat_le, if◌then◌else◌, List, [], ◌∷◌, ◌++◌, slice_index, slice_index_or, false}
 use Rattle.trust_types.specs.declared.levels.Level.{Level}
 use Rattle.trust_types.specs.declared.accounts.Node.{Node}
 use Rattle.trust_types.specs.declared.accounts.Node.TheVariants.{Root, Account}
 use Rattle.trust_types.specs.Levels.{rank}
-use Rattle.trust_types.specs.Capacity.{cap_by}
 use Rattle.trust_types.specs.Layout.{Rows, accounts, degree, taker, level_given}
 use Rattle.split_graph.specs.declared.split_arcs.SplitArc.{SplitArc}
 use Rattle.split_graph.specs.Split.{first_half, second_half, supersink, unbounded}

@@ -1,10 +1,10 @@
 //! The arcs of a split graph, one after another.
 
-ghost use Rattle.std.specs.Prelude.{◌≡◌, ◌<◌, ◌≤◌, ◌+◌, ◌*◌, ◌++◌, length, vec_len, vec_capacity, slice_index};
+ghost use Rattle.std.specs.Prelude.{◌≡◌, ◌<◌, ◌≤◌, ◌+◌, ◌*◌, ◌++◌, ◌^◌, length, vec_len, vec_capacity, slice_index};
 ghost use Rattle.trust_types.specs.declared.accounts.Node.TheVariants.{Root};
 ghost use Rattle.trust_types.specs.Sum.{sum_below};
-ghost use Rattle.trust_types.specs.Capacity.{entry};
-ghost use Rattle.trust_types.specs.Layout.{degree};
+ghost use Rattle.trust_types.specs.Rows.{GivesEachOnce};
+ghost use Rattle.trust_types.specs.Layout.{degree, given};
 ghost use Rattle.frozen.specs.Revision.{certificates};
 ghost use Rattle.split_graph.specs.Split.{first_half, second_half, unbounded};
 ghost use Rattle.split_graph.specs.SplitArcs.{joined_below, through_arc, own_arcs, edge_arc, seed_arcs, cert_capacity, cert_arcs, row_arcs, split_arcs};
@@ -25,7 +25,7 @@ pub struct SplitArc {
 }
 
 /// The arc through a node of some capacity.
-fn through_arc(node: &Node, capacity: u32) -> SplitArc
+pub fn through_arc(node: &Node, capacity: u32) -> SplitArc
     requires { second_half node.now < 2000000 }
     ensures { result ≡ through_arc node.now capacity }
 {
@@ -49,17 +49,25 @@ fn edge_arc(from: &Node, to: AccountNo, capacity: u32) -> SplitArc
     }
 }
 
-/// Lists the arcs of the split graph of a graph at a level, where these are the accounts' capacities.
-pub fn list_arcs(frozen: &Frozen, level: Level, caps_of: &[u32], arcs: &mut Vec<SplitArc>)
+/// Lists the arcs of the split graph of a graph at a level, where these are the capacities of the root and the accounts.
+pub fn list_arcs(
+    frozen: &Frozen,
+    level: Level,
+    root: u32,
+    caps_of: &[u32],
+    arcs: &mut Vec<SplitArc>,
+)
     requires places { length caps_of.now ≡ (certificates frozen.now).accounts }
     requires room { 3 * (certificates frozen.now).accounts + length frozen.now.rows.takers < vec_capacity arcs.old }
-    ensures listed { arcs.new.items ≡ split_arcs frozen.now.rows level (entry frozen.now.caps 0) caps_of.now }
+    ensures listed { arcs.new.items ≡ split_arcs frozen.now.rows level root caps_of.now }
+    ensures few { vec_len arcs.new < 2 ^ 30 }
     ensures capacity { vec_capacity arcs.new ≡ vec_capacity arcs.old }
 {
     let accounts = frozen.accounts();
+    // Its contract says that the accounts give no more certificates than there is room for.
     let _certs = frozen.certs();
     arcs.clear();
-    arcs.push_reserved(through_arc(&Node::Root, frozen.caps().at(0)));
+    arcs.push_reserved(through_arc(&Node::Root, root));
     list_own(accounts, caps_of, arcs);
     list_seeds(frozen, accounts, arcs);
     list_certs(frozen, level, accounts, arcs);
@@ -122,13 +130,14 @@ fn cert_capacity(level: Level, given: Level) -> u32
 
 /// Lists the arcs of the certificates that an account gives.
 fn list_row(frozen: &Frozen, level: Level, account: AccountNo, arcs: &mut Vec<SplitArc>)
+    requires readers { GivesEachOnce (certificates frozen.now) (degree frozen.now.rows) (given frozen.now.rows) }
+    requires few { (certificates frozen.now).accounts ≤ 100000 }
     requires account { account < (certificates frozen.now).accounts }
     requires room { vec_len arcs.old + degree frozen.now.rows account ≤ vec_capacity arcs.old }
     ensures listed { arcs.new.items ≡ arcs.old.items ++ row_arcs frozen.now.rows level account }
     ensures count { vec_len arcs.new ≡ vec_len arcs.old + degree frozen.now.rows account }
     ensures capacity { vec_capacity arcs.new ≡ vec_capacity arcs.old }
 {
-    let _accounts = frozen.accounts();
     for i in 0..frozen.degree(account) {
         let cert = frozen.given(account, i);
         let capacity = cert_capacity(level, cert.level);
@@ -138,9 +147,12 @@ fn list_row(frozen: &Frozen, level: Level, account: AccountNo, arcs: &mut Vec<Sp
 
 /// Lists the arcs of all certificates.
 fn list_certs(frozen: &Frozen, level: Level, accounts: u32, arcs: &mut Vec<SplitArc>)
+    requires readers { GivesEachOnce (certificates frozen.now) (degree frozen.now.rows) (given frozen.now.rows) }
+    requires few { accounts ≤ 100000 }
     requires accounts { accounts ≡ (certificates frozen.now).accounts }
     requires room { vec_len arcs.old + sum_below accounts (degree frozen.now.rows) ≤ vec_capacity arcs.old }
     ensures listed { arcs.new.items ≡ arcs.old.items ++ joined_below accounts (row_arcs frozen.now.rows level) }
+    ensures count { vec_len arcs.new ≡ vec_len arcs.old + sum_below accounts (degree frozen.now.rows) }
     ensures capacity { vec_capacity arcs.new ≡ vec_capacity arcs.old }
 {
     for account in 0..accounts {
