@@ -14,7 +14,8 @@ use Rattle.split_graph.specs.Split.{first_half, second_half, node_count, IsNode,
 use Rattle.split_graph.specs.Arcs.{Arcs, AreArcs, LeadsTo, between}
 use Rattle.split_graph.specs.SplitArcs.{through_arc, edge_arc, end_arc, cert_capacity, split_arcs}
 use Rattle.split_graph.specs.Layout.{Table, arc_at, ends_at, capacity_among, Joins, AreSplitArcs, IsLaidOut, IsArcAt, ArePlaced}
-use Rattle.split_graph.specs.Network.{Room, StandsFor, network, nothing, seeds_before, IsTaker}
+use Rattle.split_graph.specs.Network.{Room, StandsFor, nothing, seeds_before, IsTaker}
+use Rattle.split_graph.specs.Held.{network}
 use Rattle.trust_types.proofs.Walks.{distance-root, walk-within}
 use Rattle.split_graph.proofs.Places.{first_more, place_of, placed_before}
 use Rattle.split_graph.proofs.Counts.{places-all}
@@ -167,6 +168,8 @@ along_place l (Account a) i b taken =
 
 pub stands : (l : Loading) (room : Room) → AreCapacities (certificates l.graph) l.level l.graph.caps (cap_by l.root l.caps) → StandsFor (network room l.graph l.level l.n l.t)
 stands l room capacities = record {
+  grade = l.grade;
+  readers = l.readers;
   arcs = are_arcs (built l);
   accounts = l.size;
   places = record {

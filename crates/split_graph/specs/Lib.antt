@@ -4,3 +4,4 @@ pub mod Arcs
 pub mod Layout
 pub mod SplitArcs
 pub mod Network
+pub mod Held

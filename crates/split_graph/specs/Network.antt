@@ -1,15 +1,16 @@
 -- What contracts see of a residual graph: the graph and the level that were loaded, and what rests of their split graph.
-use Rattle.std.specs.Prelude.{ℕ, ◌≡◌, ◌<◌, ◌≤◌, ◌+◌, if◌then◌else◌, [], length, slice_index_or, false, IsTrue}
+use Rattle.std.specs.Prelude.{ℕ, ◌≡◌, ◌<◌, ◌≤◌, ◌+◌, if◌then◌else◌, [], length, IsTrue}
 use Rattle.trust_types.specs.declared.levels.Level.{Level}
 use Rattle.trust_types.specs.declared.accounts.Node.{Node}
 use Rattle.trust_types.specs.declared.accounts.Node.TheVariants.{Root, Account}
 use Rattle.trust_types.specs.Sum.{sum_below}
-use Rattle.trust_types.specs.Layout.{Rows, accounts, degree, taker}
+use Rattle.trust_types.specs.Levels.{IsGrade}
+use Rattle.trust_types.specs.Rows.{GivesEachOnce}
+use Rattle.trust_types.specs.Layout.{Rows, accounts, degree, taker, given, certificates as certificates_of}
 use Rattle.frozen.specs.Revision.{Revision, certificates}
 use Rattle.split_graph.specs.Split.{first_half, second_half, supersink, IsNode}
 use Rattle.split_graph.specs.Arcs.{Arcs, AreArcs, LeadsTo, first_of, between}
 use Rattle.split_graph.specs.Moved.{RestsOf}
-use Rattle.split_graph.specs.Layout.{Table}
 
 -- For how many accounts and certificates there is room.
 pub record Room : Type 0 where
@@ -24,15 +25,6 @@ pub record Network : Type 0 where
   pub level : Level
   pub arcs : Arcs
 
--- The same, by the arrays.
-abbrev pub network : Room → Revision → Level → ℕ → Table → Network
-network room graph level accounts t = record {
-  room = room;
-  graph = graph;
-  level = level;
-  arcs = record { accounts = accounts; first = t.first; head = t.head; twin = t.twin; rest = t.rest };
-}
-
 -- There is room for the graph.
 pub record Fits (f : Revision) (room : Room) : Type 0 where
   pub accounts : (certificates f).accounts ≤ room.accounts
@@ -44,7 +36,7 @@ nothing = record { number = 0; caps = []; names = []; rows = record { seeds = []
 
 -- How many seeds there are among the accounts before one.
 abbrev pub seeds_before : Rows → ℕ → ℕ
-seeds_before r b = sum_below b (λ a. if slice_index_or r.seeds a false then 1 else 0)
+seeds_before r b = sum_below b (λ a. if (certificates_of r).is_seed a then 1 else 0)
 
 -- How many edges a node has at the lowest level: the root one to each seed, an account one for each certificate that it gives.
 abbrev pub given_count : Rows → Node → ℕ
@@ -53,7 +45,7 @@ given_count r (Account a) = degree r a
 
 -- The account to which the i-th of these leads.
 abbrev pub IsTaker : Rows → Node → ℕ → ℕ → Type 0
-IsTaker r Root i b = (b < accounts r) × IsTrue (slice_index_or r.seeds b false) × (seeds_before r b ≡ i)
+IsTaker r Root i b = (b < accounts r) × IsTrue ((certificates_of r).is_seed b) × (seeds_before r b ≡ i)
 IsTaker r (Account a) i b = (a < accounts r) × (i < degree r a) × (taker r a i ≡ b)
 
 -- The arc along the i-th of them: these stand in order, after the arc back through the node.
@@ -70,6 +62,8 @@ pub record AreInPlace (r : Rows) (a : Arcs) : Type 0 where
 
 -- The arcs stand for what rests of the split graph of what was loaded.
 pub record StandsFor (n : Network) : Type 0 where
+  pub grade : IsGrade n.level
+  pub readers : GivesEachOnce (certificates n.graph) (degree n.graph.rows) (given n.graph.rows)
   pub arcs : AreArcs n.arcs
   pub accounts : n.arcs.accounts ≡ (certificates n.graph).accounts
   pub places : AreInPlace n.graph.rows n.arcs

@@ -1,11 +1,11 @@
 -- The arcs of a split graph, one after another, as they are listed to be laid out. The contracts of the crate's own functions
 -- speak of this list; those of its public ones need none of it.
-use Rattle.std.specs.Prelude.{ℕ, zero, suc, ◌-◌, nat_le, if◌then◌else◌, List, [], ◌∷◌, ◌++◌, slice_index, slice_index_or, false}
+use Rattle.std.specs.Prelude.{ℕ, zero, suc, ◌-◌, nat_le, if◌then◌else◌, List, [], ◌∷◌, ◌++◌, slice_index}
 use Rattle.trust_types.specs.declared.levels.Level.{Level}
 use Rattle.trust_types.specs.declared.accounts.Node.{Node}
 use Rattle.trust_types.specs.declared.accounts.Node.TheVariants.{Root, Account}
 use Rattle.trust_types.specs.Levels.{rank}
-use Rattle.trust_types.specs.Layout.{Rows, accounts, degree, taker, level_given}
+use Rattle.trust_types.specs.Layout.{Rows, accounts, degree, taker, level_given, certificates}
 use Rattle.split_graph.specs.declared.split_arcs.SplitArc.{SplitArc}
 use Rattle.split_graph.specs.Split.{first_half, second_half, supersink, unbounded}
 
@@ -30,7 +30,7 @@ abbrev pub edge_arc : Node → ℕ → ℕ → SplitArc
 edge_arc x b capacity = record { from = second_half x; to = first_half (Account b); capacity = capacity }
 
 abbrev pub seed_arcs : Rows → ℕ → List SplitArc
-seed_arcs r b = if slice_index_or r.seeds b false then edge_arc Root b unbounded ∷ [] else []
+seed_arcs r b = if (certificates r).is_seed b then edge_arc Root b unbounded ∷ [] else []
 
 -- At a level nothing goes along a certificate of a lower one.
 abbrev pub cert_capacity : Level → Level → ℕ

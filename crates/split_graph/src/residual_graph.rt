@@ -2,6 +2,7 @@
 
 ghost use Rattle.std.specs.Prelude.{ℕ, ◌≡◌, ◌≢◌, ◌<◌, ◌≤◌, ◌+◌, ◌^◌, length, IfOk};
 ghost use Rattle.trust_types.specs.declared.accounts.Node.TheVariants.{Account};
+ghost use Rattle.trust_types.specs.Graph.{HasEdge};
 ghost use Rattle.trust_types.specs.Capacity.{entry, AreCapacities, cap_by};
 ghost use Rattle.frozen.specs.Revision.{certificates};
 ghost use Rattle.split_graph.specs.Split.{first_half, second_half, node_count, IsNode, IsSplitGraph};
@@ -35,8 +36,8 @@ pub struct Residual {
 impl Model for Residual {
     ghost use Rattle.std.specs.Prelude.{vec_capacity};
     ghost use Rattle.std.specs.Option.{option_map_or};
-    ghost use Rattle.split_graph.specs.Layout.{IsReserved};
-    ghost use Rattle.split_graph.specs.Network.{Network, StandsFor, network, nothing};
+    ghost use Rattle.split_graph.specs.Network.{Network, StandsFor, nothing};
+    ghost use Rattle.split_graph.specs.Held.{network, IsReserved};
 
     ghost Value = { Network };
 
@@ -137,6 +138,7 @@ impl Residual {
         requires within { i < given_count self.now.graph.rows from }
         ensures place { result ≡ arc_along self.now.arcs from i }
         ensures along { (b : ℕ) → IsTaker self.now.graph.rows from i b → LeadsTo self.now.arcs (second_half from) (first_half (Account b)) result }
+        ensures closed { (b : ℕ) → IsTaker self.now.graph.rows from i b → ¬ (HasEdge (certificates self.now.graph) self.now.level from b) → rest_of self.now.arcs result ≡ 0 }
     {
         self.table.first(second_half(&from)) + (i + 1)
     }

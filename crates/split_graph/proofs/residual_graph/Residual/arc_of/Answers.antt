@@ -1,9 +1,9 @@
 use Rattle.std.proofs.Common.{ℕ, arith, ◌≡◌, ◌+◌, ◌∙◌, ap, get_or, sym, subst}
 use Rattle.split_graph.specs.Split.{first_half, second_half}
-use Rattle.split_graph.specs.Arcs.{LeadsTo}
+use Rattle.split_graph.specs.Arcs.{LeadsTo, rest_of}
 use Rattle.trust_types.specs.declared.accounts.Node.TheVariants.{Account}
 use Rattle.split_graph.specs.Network.{Network, StandsFor, IsTaker, arc_along}
-use Rattle.split_graph.proofs.Standing.{taker_of}
+use Rattle.split_graph.proofs.Standing.{taker_of, closed_arc}
 use Rattle.split_graph.proofs.residual_graph.Residual.arc_of.Goals as goal
 
 abbrev stands_now : (c : goal.After-first) → StandsFor c.args.self.now
@@ -32,3 +32,7 @@ overflow_add-result-2 c =
 
 pub returns-clause-along : goal.returns-clause-along
 returns-clause-along c b taken = leads c b taken
+
+pub returns-clause-closed : goal.returns-clause-closed
+returns-clause-closed c b taken no_edge =
+    ap (rest_of c.args.self.now.arcs) (place c) ∙ closed_arc c.args.self.now (stands_now c) c.args.from c.args.i b taken no_edge

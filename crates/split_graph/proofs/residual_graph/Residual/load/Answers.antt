@@ -5,7 +5,8 @@ use Rattle.split_graph.specs.declared.split_arcs.SplitArc.{SplitArc}
 use Rattle.split_graph.specs.Split.{node_count, IsSplitGraph}
 use Rattle.split_graph.specs.Arcs.{between}
 use Rattle.split_graph.specs.Layout.{AreSplitArcs}
-use Rattle.split_graph.specs.Network.{Network, Room, StandsFor, network}
+use Rattle.split_graph.specs.Network.{Network, Room, StandsFor}
+use Rattle.split_graph.specs.Held.{network}
 use Rattle.split_graph.proofs.Listed.{Listing, are_split_arcs}
 use Rattle.split_graph.proofs.Loaded.{Loading, arcs_in, loaded, stands}
 use Rattle.split_graph.proofs.Standing.{still_reserved}

@@ -1,7 +1,7 @@
 use Rattle.std.proofs.Common.{◌≢◌, ◌∙◌, ◌++◌, ◌∷◌, [], arith, ap, refl, List, vec_capacity}
 use Rattle.trust_types.specs.declared.levels.Level.TheVariants.{Observer, Apprentice}
 use Rattle.split_graph.specs.declared.split_arcs.SplitArc.{SplitArc}
-use Rattle.split_graph.specs.Layout.{IsReserved}
+use Rattle.split_graph.specs.Held.{IsReserved}
 use Rattle.split_graph.specs.Network.{Room, nothing}
 use Rattle.split_graph.proofs.Loaded.{Loading, stands, nothing_given, no_capacities}
 use Rattle.split_graph.proofs.Standing.{still_reserved}
