@@ -4,3 +4,6 @@
 mod frozen_graph;
 
 pub use frozen_graph::Frozen;
+
+#[cfg(test)]
+mod tests;

@@ -68,11 +68,11 @@ pub indexed_more : (names : List (List ℕ)) (old new : tree.BTreeMap ℕ ℕ) (
 indexed_more names old new name key number is none next updates apart = record {
   apart = all_pairs_push (λ a b. a ≢ b) names name is.apart (differs names name none);
   numbered = λ q named.
-  let test : is_eq (nat_cmp key (name_key q)) ≡ bytes_eq name q = key_test key (name_key q) name q (apart q named).0 (apart q named).1 (bytes_eq name q) refl in
-  updates (name_key q) ∙ ap (λ (b : Bool). cond b (Some number) (tree.get nat_cmp old (name_key q))) test
-  ∙ ap (λ (o : Option ℕ). cond (bytes_eq name q) (Some number) o) (is.numbered q named)
-  ∙ ap (λ (n : ℕ). cond (bytes_eq name q) (Some n) (number_of names q)) next
-  ∙ number_after names name q (bytes_eq name q) (number_of names q) refl none refl
+      let test : is_eq (nat_cmp key (name_key q)) ≡ bytes_eq name q = key_test key (name_key q) name q (apart q named).0 (apart q named).1 (bytes_eq name q) refl in
+      updates (name_key q) ∙ ap (λ (b : Bool). cond b (Some number) (tree.get nat_cmp old (name_key q))) test
+      ∙ ap (λ (o : Option ℕ). cond (bytes_eq name q) (Some number) o) (is.numbered q named)
+      ∙ ap (λ (n : ℕ). cond (bytes_eq name q) (Some n) (number_of names q)) next
+      ∙ number_after names name q (bytes_eq name q) (number_of names q) refl none refl;
 }
 
 unequal : (a b : List ℕ) (t : Bool) → bytes_eq a b ≡ t → a ≢ b → bytes_eq a b ≡ false

@@ -62,19 +62,20 @@ mod tests {
 
     #[test]
     fn reads_the_four_spellings_and_no_other(rt: HostRuntime) -> Result<(), Fail> {
-        for (word, level) in [
-            ("Observer", Some(Level::Observer)),
-            ("Apprentice", Some(Level::Apprentice)),
-            ("Journeyer", Some(Level::Journeyer)),
-            ("Master", Some(Level::Master)),
-            ("master", None),
-            ("Masters", None),
-            ("Maste", None),
-            ("", None),
-        ] {
-            assert_eq!(rt; Level::of_name(word.as_bytes()), level, "at {word}");
+        let rows: [(&[u8], Option<Level>); 8] = [
+            (b"Observer", Some(Level::Observer)),
+            (b"Apprentice", Some(Level::Apprentice)),
+            (b"Journeyer", Some(Level::Journeyer)),
+            (b"Master", Some(Level::Master)),
+            (b"master", None),
+            (b"Masters", None),
+            (b"Maste", None),
+            (b"", None),
+        ];
+        for (word, level) in rows {
+            assert_eq!(rt; Level::of_name(word), level);
             if let Some(level) = level {
-                assert_eq!(rt; level.to_string(rt.alloc())?.as_str(), word);
+                assert_eq!(rt; level.to_string(rt.alloc())?.as_bytes(), word);
             }
         }
         assert!(rt; !Level::Observer.is_grade() && Level::Apprentice.is_grade());

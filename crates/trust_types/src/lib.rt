@@ -31,3 +31,6 @@ pub use records::{Record, Secret};
 pub use steps::Steps;
 pub use tables::{Caps, CapsFault};
 pub use texts::Text;
+
+#[cfg(test)]
+mod tests;

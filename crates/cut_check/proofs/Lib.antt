@@ -1,0 +1,7 @@
+mod CertEdges
+mod FlowLines
+mod MissingEdge
+mod Values
+mod Adding
+mod Judging
+mod Most

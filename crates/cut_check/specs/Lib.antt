@@ -1,0 +1,10 @@
+pub mod Proof
+pub mod Rules
+pub mod Firsts
+pub mod Verdict
+pub mod Line
+pub mod Sides
+pub mod Sums
+pub mod Cursor
+pub mod Check
+pub mod Figures
