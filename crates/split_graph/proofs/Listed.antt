@@ -23,7 +23,7 @@ use Rattle.split_graph.specs.Layout.{no_arc, arc_at, touches, capacity_share, ca
 use Rattle.split_graph.specs.Network.{seeds_before}
 use Rattle.split_graph.proofs.Sums.{sum_below-lone, sum_below-none, sum_below-some}
 use Rattle.split_graph.proofs.Units.{share_hit, share_miss, share_some}
-use Rattle.split_graph.proofs.Lists.{All-joined, AllPairs-append, AllPairs-joined, StandsAt, all_ends, all_ends-append, all_ends-joined, all_ends-one, all_ends-two, stands-left, stands-right, stands-joined}
+use Rattle.split_graph.proofs.Lists.{touches-none, touches-from, touches-to, All-joined, AllPairs-append, AllPairs-joined, StandsAt, all_ends, all_ends-append, all_ends-joined, all_ends-one, all_ends-two, stands-left, stands-right, stands-joined}
 
 -- what these lemmas speak of
 pub record Listing : Type 0 where
@@ -266,15 +266,6 @@ capacity-of nodes arcs are arc i at =
 -- Where an account's own arcs and those of seeds and certificates stand.
 own_ends : (s : Listing) (b v : ℕ) → all_ends (own_arcs (size s) s.caps b) v ≡ touches (through_arc (Account b) (slice_index s.caps b)) v + touches (end_arc (size s) b) v
 own_ends s b v = all_ends-two (through_arc (Account b) (slice_index s.caps b)) (end_arc (size s) b) v
-
-touches-none : (x : SplitArc) (v : ℕ) → x.from ≢ v → x.to ≢ v → touches x v ≡ 0
-touches-none x v p q = grind (arith, nat_tests)
-
-touches-from : (x : SplitArc) (v : ℕ) → x.from ≡ v → x.to ≢ v → touches x v ≡ 1
-touches-from x v p q = grind (arith, nat_tests)
-
-touches-to : (x : SplitArc) (v : ℕ) → x.from ≢ v → x.to ≡ v → touches x v ≡ 1
-touches-to x v p q = grind (arith, nat_tests)
 
 -- before an account's own arcs nothing ends at its first half
 none_before : (s : Listing) (a : ℕ) → a < size s → sum_below a (λ b. all_ends (own_arcs (size s) s.caps b) (2 * a + 2)) ≡ 0

@@ -16,7 +16,7 @@ use Rattle.split_graph.specs.SplitArcs.{through_arc, edge_arc, end_arc, cert_cap
 use Rattle.split_graph.specs.Layout.{Table, arc_at, ends_at, capacity_among, Joins, AreSplitArcs, IsLaidOut, IsArcAt, ArePlaced}
 use Rattle.split_graph.specs.Network.{Room, StandsFor, nothing, seeds_before, IsTaker}
 use Rattle.split_graph.specs.Held.{network}
-use Rattle.trust_types.proofs.Walks.{distance-root, walk-within}
+use Rattle.trust_types.proofs.Walks.{distance_of_root, walk_within}
 use Rattle.split_graph.proofs.Places.{first_more, place_of, placed_before}
 use Rattle.split_graph.proofs.Counts.{places-all}
 use Rattle.split_graph.proofs.Lists.{StandsAt, all_ends}
@@ -202,5 +202,5 @@ nothing_given = record {
 }
 
 pub no_capacities : (level : Level) → AreCapacities (certificates nothing) level [] (cap_by 0 [])
-no_capacities level Root = inl (0, distance-root (certificates nothing) level, refl)
-no_capacities level (Account a) = inr (λ n walk. omega (arith, walk-within (certificates nothing) level n a walk), refl)
+no_capacities level Root = inl (0, distance_of_root (certificates nothing) level, refl)
+no_capacities level (Account a) = inr (λ n walk. omega (arith, walk_within (certificates nothing) level n a walk), refl)

@@ -10,6 +10,7 @@ use Rattle.trust_types.specs.Graph.{Certificates, HasEdge}
 use Rattle.trust_types.specs.Flow.{Flow, units_in, units_out, total}
 use Rattle.trust_types.specs.Cut.{IsCut, value, account_share, root_share}
 use Rattle.trust_types.proofs.Sums.{sum_below-add, sum_below-swap, sum_below-eq, part-le-sum_below}
+use Rattle.trust_types.proofs.Walks.{edge_within}
 use Rattle.trust_types.proofs.Conservation.{total_is_root_units}
 use Rattle.split_graph.specs.Split.{first_half, second_half, unbounded, IsNode}
 use Rattle.split_graph.specs.Moved.{IsSaturated, side_by, sides_by, units_moved}
@@ -40,15 +41,11 @@ giver_is : (g : Certificates) (level : Level) (x : Node) (b : ℕ) → HasEdge g
 giver_is g level Root b edge = tt
 giver_is g level (Account a) b edge = edge.0
 
-taker_below : (g : Certificates) (level : Level) (x : Node) (b : ℕ) → HasEdge g level x b → b < g.accounts
-taker_below g level Root b edge = edge.0
-taker_below g level (Account a) b edge = edge.1
-
 -- an edge out of a reached second half ends at a reached account
 edge_reaches : (s : Saturation) (x : Node) (b : ℕ) → HasEdge s.m.g s.m.level x b → s.reached (second_half x) ≡ true → s.reached (2 * b + 2) ≡ true
 edge_reaches s x b edge inside =
     s.saturated.closed (second_half x) (2 * b + 2) inside
-    (edge_open s x b (giver_is s.m.g s.m.level x b edge) (taker_below s.m.g s.m.level x b edge) edge)
+    (edge_open s x b (giver_is s.m.g s.m.level x b edge) (edge_within s.m.g s.m.level x b edge) edge)
 
 -- units came to a reached account from reached second halves alone
 units_reach_back : (s : Saturation) (x : Node) (b : ℕ) → 0 < units_moved s.m.r x b → s.reached (2 * b + 2) ≡ true → s.reached (second_half x) ≡ true
