@@ -5,6 +5,8 @@ mod arc_table;
 mod residual_graph;
 mod split_arcs;
 mod split_nodes;
+#[cfg(test)]
+mod tests;
 
 pub use residual_graph::Residual;
 pub use split_nodes::{first_half, second_half, supersink};
