@@ -1,0 +1,15 @@
+pub mod Sums
+pub mod Counted
+pub mod Shapes
+pub mod Halves
+pub mod Feasible
+pub mod Saturated
+pub mod Ways
+pub mod Balance
+pub mod Units
+mod Lists
+mod Listed
+mod Places
+mod Counts
+mod Loaded
+mod Standing

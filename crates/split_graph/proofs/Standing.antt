@@ -1,0 +1,109 @@
+-- The arcs go on standing for what rests of the split graph.
+use Rattle.std.proofs.Common.{ℕ, zero, suc, Bool, true, false, ◌+◌, ◌*◌, ◌≡◌, ◌≢◌, ◌≤◌, ◌<◌, inl, inr, refl, arith, ap, sym, ◌∙◌, length-set, set, if◌then◌else◌}
+use Rattle.std.specs.Prelude.{slice_index_or}
+use Rattle.std.proofs.lemmas.Bool.{cases_lt}
+use Rattle.trust_types.specs.declared.accounts.Node.{Node}
+use Rattle.trust_types.specs.declared.accounts.Node.TheVariants.{Root, Account}
+use Rattle.trust_types.specs.Graph.{HasEdge}
+use Rattle.frozen.specs.Revision.{certificates}
+use Rattle.trust_types.specs.Layout.{Rows, accounts, taker}
+use Rattle.split_graph.specs.Split.{first_half, second_half, IsNode, IsArc}
+use Rattle.split_graph.specs.Arcs.{Arcs, LeadsTo, arc_count, head_of, tail_of, rest_of, between, move_one}
+use Rattle.split_graph.specs.Network.{Network, StandsFor, AreInPlace, seeds_before, given_count, IsTaker, arc_along}
+use Rattle.split_graph.specs.Layout.{Table, IsAsLong}
+use Rattle.split_graph.specs.Held.{IsReserved}
+use Rattle.split_graph.proofs.Units.{moves_one, still_arcs, between-arc}
+use Rattle.split_graph.proofs.Shapes.{shape}
+use Rattle.split_graph.proofs.Halves.{first_to_root_second, first_to_other_second}
+use Rattle.split_graph.proofs.Feasible.{edge_along}
+use Rattle.split_graph.proofs.Ways.{both_ways}
+
+-- the arcs lead where they led, whatever rests on them
+still_leads : (a : Arcs) (u v e d : ℕ) → LeadsTo a u v d → LeadsTo (move_one e a) u v d
+still_leads a u v e d leads = record { within = leads.within; tail = leads.tail; head = leads.head }
+
+still_in_place : (r : Rows) (a : Arcs) (e : ℕ) → AreInPlace r a → AreInPlace r (move_one e a)
+still_in_place r a e are = record {
+  through = λ x is. still_leads a _ _ e _ (are.through x is);
+  only = are.only;
+  ends = λ b below. still_leads a _ _ e _ (are.ends b below);
+  along = λ x i b taken. still_leads a _ _ e _ (are.along x i b taken);
+}
+
+pub still_stands : (n : Network) (e : ℕ) → StandsFor n → e < arc_count n.arcs → 0 < rest_of n.arcs e → StandsFor (record n { arcs = move_one e n.arcs })
+still_stands n e stands below some =
+    let a : Arcs = n.arcs in
+    let one = moves_one a stands.arcs e below some in
+    record {
+      grade = stands.grade;
+      readers = stands.readers;
+      arcs = still_arcs a stands.arcs e below some;
+      accounts = stands.accounts;
+      places = still_in_place n.graph.rows a e stands.places;
+      rests = record {
+        cap = stands.rests.cap;
+        capacity = stands.rests.capacity;
+        capacities = stands.rests.capacities;
+        split = stands.rests.split;
+        both = λ u v. both_ways (between a) (between (move_one e a)) (tail_of a e) (head_of a e) u v one (stands.arcs.apart e below) ∙ stands.rests.both u v;
+      };
+    }
+
+-- where the split graph has no arc either way, nothing can be moved
+rests_closed : (n : Network) → StandsFor n → (u v : ℕ) → (IsArc (certificates n.graph) n.level u v → ⊥) → (IsArc (certificates n.graph) n.level v u → ⊥) → between n.arcs u v ≡ 0
+rests_closed n stands u v none back =
+    let c = stands.rests.capacity in
+    let zero : (p q : ℕ) → (IsArc (certificates n.graph) n.level p q → ⊥) → c p q ≡ 0 =
+    λ p q no. elim (cases_lt 0 (c p q)) [ inl some ↦ absurd (no (stands.rests.split.only p q some)) | inr nothing ↦ omega arith ] in
+    omega (arith, stands.rests.both u v, zero u v none, zero v u back)
+
+no_way_back : (n : Network) → StandsFor n → (x : Node) (i b : ℕ) → IsTaker n.graph.rows x i b → IsArc (certificates n.graph) n.level (first_half (Account b)) (second_half x) → ⊥
+no_way_back n stands Root i b taken arc = first_to_root_second (certificates n.graph).accounts b (shape (certificates n.graph) n.level (2 * b + 2) 1 arc)
+no_way_back n stands (Account a) i b taken arc =
+    let other : a ≢ b = λ same. stands.readers.others a i taken.0 taken.1 (taken.2 ∙ sym same) in
+    first_to_other_second (certificates n.graph).accounts b a other (shape (certificates n.graph) n.level (2 * b + 2) (2 * a + 3) arc)
+
+-- nothing rests on the arc of a certificate below the level
+pub closed_arc : (n : Network) → StandsFor n → (x : Node) (i b : ℕ) → IsTaker n.graph.rows x i b → (HasEdge (certificates n.graph) n.level x b → ⊥) → rest_of n.arcs (arc_along n.arcs x i) ≡ 0
+closed_arc n stands x i b taken no_edge =
+    let leads = stands.places.along x i b taken in
+    let e : ℕ = arc_along n.arcs x i in
+    let closed : between n.arcs (second_half x) (first_half (Account b)) ≡ 0 =
+    rests_closed n stands (second_half x) (first_half (Account b)) (λ arc. no_edge (edge_along (certificates n.graph) n.level x b arc)) (no_way_back n stands x i b taken) in
+    sym (between-arc n.arcs stands.arcs e leads.within)
+    ∙ ap (λ (u : ℕ). between n.arcs u (head_of n.arcs e)) leads.tail
+    ∙ ap (between n.arcs (second_half x)) leads.head
+    ∙ closed
+
+-- of so many seeds there is an i-th one
+seed_after : (r : Rows) (n i : ℕ) → n ≤ accounts r → i < seeds_before r n → (b : ℕ) × IsTaker r Root i b
+seed_after r zero i within less = absurd (omega arith)
+seed_after r (suc n) i within less =
+    elim (cases_lt i (seeds_before r n)) [
+      | inl before ↦ seed_after r n i (omega arith) before
+      | inr last ↦
+          (elim (slice_index_or r.seeds n false) as (λ (q : Bool). slice_index_or r.seeds n false ≡ q → i < seeds_before r n + (if q then 1 else 0) → (b : ℕ) × IsTaker r Root i b) [
+            | true ↦ λ seed here. (n, (omega arith, seed, omega arith))
+            | false ↦ λ seed here. absurd (omega arith)
+          ]) refl less
+    ]
+
+-- each of so many edges leads to an account
+pub taker_of : (r : Rows) (x : Node) (i : ℕ) → IsNode (accounts r) x → i < given_count r x → (b : ℕ) × IsTaker r x i b
+taker_of r Root i is less = seed_after r (accounts r) i (omega arith) less
+taker_of r (Account a) i is less = (taker r a i, (is, less, refl))
+
+pub still_reserved : (accounts certs capacity capacity' : ℕ) (t t' : Table) → IsReserved accounts certs t capacity → IsAsLong t t' → capacity' ≡ capacity → IsReserved accounts certs t' capacity'
+still_reserved accounts certs capacity capacity' t t' reserved long same = record {
+  table = record {
+    first = long.first ∙ reserved.table.first;
+    next = long.next ∙ reserved.table.next;
+    head = long.head ∙ reserved.table.head;
+    twin = long.twin ∙ reserved.table.twin;
+    rest = long.rest ∙ reserved.table.rest;
+  };
+  list = same ∙ reserved.list;
+}
+
+pub long_after_move : (t : Table) (e k d m : ℕ) → IsAsLong t (record t { rest = set (set t.rest e k) d m })
+long_after_move t e k d m = record { first = refl; next = refl; head = refl; twin = refl; rest = length-set (set t.rest e k) d m ∙ length-set t.rest e k }

@@ -1,0 +1,12 @@
+//! The split graph of a site at a level, and what may still be moved along its arcs.
+#![tactic(auto)]
+
+mod arc_table;
+mod residual_graph;
+mod split_arcs;
+mod split_nodes;
+#[cfg(test)]
+mod tests;
+
+pub use residual_graph::Residual;
+pub use split_nodes::{first_half, second_half, supersink};
