@@ -8,8 +8,6 @@ mod proofs;
 mod scratch;
 mod sides;
 mod sums;
-#[cfg(test)]
-mod tests;
 mod verdicts;
 
 pub use checks::check;

@@ -1,17 +1,18 @@
--- What one step of the search reaches, or two in a row.
-use Rattle.std.proofs.Common.{ℕ, Bool, cond, ◌≡◌, ◌<◌, ◌≤◌, ◌+◌, ◌⊎◌, List, [], ◌∷◌, ◌++◌, length, inl, inr, refl, sym, subst, ap, ◌∙◌, arith, length-append, length-set, get_or-set_same, get_or-set_other}
+-- What one step of the search reaches, or several in a row.
+use Rattle.std.proofs.Common.{ℕ, Bool, cond, ◌≡◌, ◌<◌, ◌≤◌, ◌+◌, ◌⊎◌, List, length, inl, inr, refl, sym, subst, ap, ◌∙◌, arith, length-set}
 use Rattle.std.specs.Prelude.{slice_index, slice_set, nat_lt, vec_capacity, IsTrue}
 use Rattle.std.specs.declared.vec.Vec.{Vec}
 use Rattle.std.specs.declared.alloc.Global.{Global}
-use Rattle.distances.specs.Reached.{IsNew, Reaches, HasRoom}
+use Rattle.std.proofs.lemmas.Bool.{cases_lt, lt-ltb}
+use Rattle.std.proofs.lemmas.List.Sums.{sum_by-set, count_by-le-length}
 use Rattle.trust_types.specs.declared.levels.Level.{Level}
 use Rattle.trust_types.specs.declared.accounts.Node.TheVariants.{Account}
 use Rattle.trust_types.specs.declared.graphs.Cert.{Cert}
-use Rattle.trust_types.specs.Levels.{rank}
+use Rattle.trust_types.specs.Levels.{rank, IsGrade}
 use Rattle.trust_types.specs.Graph.{Certificates, HasEdge}
-use Rattle.std.proofs.lemmas.Bool.{cases_lt, cases_eq, lt-ltb}
-use Rattle.std.proofs.lemmas.List.{get_or_append_left, get_or_at}
-use Rattle.std.proofs.lemmas.List.Sums.{sum_by-set, count_by-le-length}
+use Rattle.trust_types.specs.Rows.{GivesEachOnce}
+use Rattle.trust_types.proofs.Walks.{edge_of_cert, cert_of_edge}
+use Rattle.distances.specs.Reached.{Reaches, HasRoom}
 
 -- an account is reached or not
 pub seen_or_not : (out : List ℕ) (b : ℕ) → (0 < slice_index out b) ⊎ (slice_index out b ≡ 0)
@@ -20,7 +21,7 @@ seen_or_not out b = elim (cases_lt 0 (slice_index out b)) [
   | inr unseen ↦ inr (omega arith)
 ]
 
--- a step that finds all of the set reached
+-- a step that finds all of its set reached
 pub reaches_none : (P : ℕ → Type 0) (c : ℕ) (out queue : List ℕ) → ((b : ℕ) → P b → 0 < slice_index out b) → Reaches P c out queue out queue
 reaches_none P c out queue all = record {
   kept = λ b seen. refl;
@@ -33,36 +34,11 @@ reaches_none P c out queue all = record {
   waits = λ b new. absurd (omega (arith, new.unseen, new.seen));
 }
 
--- a step that reaches one account
-pub reaches_one : (a c : ℕ) (out queue : List ℕ) → a < length out → slice_index out a ≡ 0 → 0 < c → Reaches (λ b. b ≡ a) c out queue (slice_set out a c) (queue ++ a ∷ [])
-reaches_one a c out queue within unseen some =
-    let here : slice_index (slice_set out a c) a ≡ c = get_or-set_same out a c 0 within in
-    let other : (b : ℕ) → (b ≡ a → ⊥) → slice_index (slice_set out a c) b ≡ slice_index out b = λ b apart. get_or-set_other out a b c 0 apart in
-    let long : length (queue ++ a ∷ []) ≡ length queue + 1 = length-append queue (a ∷ []) in
-    let last : slice_index (queue ++ a ∷ []) (length queue) ≡ a = get_or_at queue a [] 0 (length queue) refl in
-    let only : (b : ℕ) → IsNew out (slice_set out a c) b → b ≡ a = λ b new. elim (cases_eq b a) [
-      | inl same ↦ same
-      | inr apart ↦ absurd (omega (arith, new.unseen, new.seen, other b apart))
-    ] in
-    record {
-      kept = λ b seen. other b (λ same. absurd (omega (arith, ap (slice_index out) same)));
-      all = λ b same. omega (arith, ap (slice_index (slice_set out a c)) same, here);
-      only = only;
-      given = λ b new. ap (slice_index (slice_set out a c)) (only b new) ∙ here;
-      longer = omega arith;
-      stays = λ i before. get_or_append_left queue (a ∷ []) 0 i before;
-      queued = λ i from before.
-          let at : i ≡ length queue = omega arith in
-          let is : slice_index (queue ++ a ∷ []) i ≡ a = ap (slice_index (queue ++ a ∷ [])) at ∙ last in
-          record { unseen = ap (slice_index out) is ∙ unseen; seen = omega (arith, ap (slice_index (slice_set out a c)) is, here) };
-      waits = λ b new. (length queue, omega arith, omega arith, last ∙ sym (only b new));
-    }
-
 -- a step and then another
-pub reaches_more : (P Q R : ℕ → Type 0) (c : ℕ) (out queue out' queue' out'' queue'' : List ℕ) →
+reaches_more : {P Q R : ℕ → Type 0} {c : ℕ} {out queue out' queue' out'' queue'' : List ℕ} →
     Reaches P c out queue out' queue' → Reaches Q c out' queue' out'' queue'' →
     ((b : ℕ) → R b → P b ⊎ Q b) → ((b : ℕ) → P b → R b) → ((b : ℕ) → Q b → R b) → Reaches R c out queue out'' queue''
-reaches_more P Q R c out queue out' queue' out'' queue'' first then parts left right =
+reaches_more {out = out} {queue = queue} {out' = out'} {queue' = queue'} {out'' = out''} {queue'' = queue''} first then parts left right =
     let grows : (b : ℕ) → 0 < slice_index out b → 0 < slice_index out' b = λ b seen. omega (arith, first.kept b seen) in
     let grows_on : (b : ℕ) → 0 < slice_index out' b → 0 < slice_index out'' b = λ b seen. omega (arith, then.kept b seen) in
     record {
@@ -102,27 +78,25 @@ reaches_more P Q R c out queue out' queue' out'' queue'' first then parts left r
     }
 
 -- a step by another description of its set
-pub reaches_same : (P R : ℕ → Type 0) (c : ℕ) (out queue out' queue' : List ℕ) → Reaches P c out queue out' queue' →
+pub reaches_same : {P R : ℕ → Type 0} {c : ℕ} {out queue out' queue' : List ℕ} → Reaches P c out queue out' queue' →
     ((b : ℕ) → P b → R b) → ((b : ℕ) → R b → P b) → Reaches R c out queue out' queue'
-reaches_same P R c out queue out' queue' step forth back =
-    reaches_more P P R c out queue out' queue' out' queue' step (reaches_none P c out' queue' step.all) (λ b in_set. inl (back b in_set)) forth forth
-
-weight : ℕ → ℕ
-weight c = cond (nat_lt 0 c) 1 0
-
--- an account that wasn't reached finds room in the queue
-pub room_for : (out : List ℕ) (queue : Vec ℕ Global) (a c : ℕ) → HasRoom out queue → a < length out → slice_index out a ≡ 0 → 0 < c → length queue.items < vec_capacity queue
-unfolding weight
-room_for out queue a c room within unseen some =
-    let more = sum_by-set weight out a c 0 within in
-    let none : weight (slice_index out a) ≡ 0 = ap weight unseen in
-    let one : weight c ≡ 1 = ap (λ (b : Bool). cond b 1 0) (lt-ltb 0 c some) in
-    let most = count_by-le-length (nat_lt 0) (slice_set out a c) in
-    omega (arith, more, none, one, most, length-set out a c, room.number, room.room)
+reaches_same {P = P} {c = c} {out' = out'} {queue' = queue'} step forth back =
+    reaches_more step (reaches_none P c out' queue' step.all) (λ b in_set. inl (back b in_set)) forth forth
 
 -- One of the first n of these sets has it.
 abbrev pub IsAmong : (ℕ → ℕ → Type 0) → ℕ → ℕ → Type 0
 IsAmong Q n b = (i : ℕ) × (i < n) × Q i b
+
+-- the next of a row of steps
+pub reaches_next : (Q : ℕ → ℕ → Type 0) (n : ℕ) {c : ℕ} {out queue out' queue' out'' queue'' : List ℕ} →
+    Reaches (IsAmong Q n) c out queue out' queue' → Reaches (Q n) c out' queue' out'' queue'' → Reaches (IsAmong Q (n + 1)) c out queue out'' queue''
+reaches_next Q n first then = reaches_more {R = IsAmong Q (n + 1)} first then
+    (λ b among. elim (cases_lt among.0 n) [
+      | inl before ↦ inl (among.0, before, among.2)
+      | inr here ↦ let at : among.0 ≡ n = omega (arith, among.1) in inr (subst (λ (i : ℕ). Q i b) at among.2)
+    ])
+    (λ b among. (among.0, omega (arith, among.1), among.2))
+    (λ b in_set. (n, omega arith, in_set))
 
 -- The account of this number is a seed.
 abbrev pub IsSeedAt : Certificates → ℕ → ℕ → Type 0
@@ -132,21 +106,30 @@ IsSeedAt g a b = (b ≡ a) × IsTrue (g.is_seed a)
 abbrev pub IsGivenAt : (ℕ → Cert) → Level → ℕ → ℕ → Type 0
 IsGivenAt given level i b = (b ≡ (given i).to) × (rank level ≤ rank (given i).level)
 
--- The account in a place of the queue, from one on, certifies it.
+-- the certificates that an account gives, at the level or above, are its edges
+pub reaches_edges : (g : Certificates) (degree : ℕ → ℕ) (given : ℕ → ℕ → Cert) (level : Level) (a n : ℕ) {c : ℕ} {out queue out' queue' : List ℕ} →
+    GivesEachOnce g degree given → IsGrade level → a < g.accounts → n ≡ degree a →
+    Reaches (IsAmong (IsGivenAt (given a) level) n) c out queue out' queue' → Reaches (HasEdge g level (Account a)) c out queue out' queue'
+reaches_edges g degree given level a n readers grade account all step =
+    reaches_same step
+    (λ b among. rw among.2.0 (edge_of_cert g degree given level a among.0 readers account (omega (arith, among.1)) among.2.1))
+    (λ b edge.
+    let found = cert_of_edge g degree given level a b readers grade edge in
+    (found.0, omega (arith, found.1), (sym found.2, found.3)))
+
+-- The account in the i-th place of the queue, which lies behind a first one, certifies it.
 abbrev pub IsCertifiedAt : Certificates → Level → List ℕ → ℕ → ℕ → ℕ → Type 0
 IsCertifiedAt g level queue start i b = (start ≤ i) × HasEdge g level (Account (slice_index queue i)) b
 
--- before the first of a row of steps, and after the next
-pub reaches_first : (Q : ℕ → ℕ → Type 0) (n c : ℕ) (out queue : List ℕ) → ((i b : ℕ) → i < n → Q i b → ⊥) → Reaches (IsAmong Q n) c out queue out queue
-reaches_first Q n c out queue none = reaches_none (IsAmong Q n) c out queue (λ b among. absurd (none among.0 b among.1 among.2))
+weight : ℕ → ℕ
+weight c = cond (nat_lt 0 c) 1 0
 
-pub reaches_next : (Q : ℕ → ℕ → Type 0) (n c : ℕ) (out queue out' queue' out'' queue'' : List ℕ) →
-    Reaches (IsAmong Q n) c out queue out' queue' → Reaches (Q n) c out' queue' out'' queue'' → Reaches (IsAmong Q (n + 1)) c out queue out'' queue''
-reaches_next Q n c out queue out' queue' out'' queue'' first then =
-    reaches_more (IsAmong Q n) (Q n) (IsAmong Q (n + 1)) c out queue out' queue' out'' queue'' first then
-    (λ b among. elim (cases_lt among.0 n) [
-      | inl before ↦ inl (among.0, before, among.2)
-      | inr here ↦ let at : among.0 ≡ n = omega (arith, among.1) in inr (subst (λ (i : ℕ). Q i b) at among.2)
-    ])
-    (λ b among. (among.0, omega (arith, among.1), among.2))
-    (λ b in_set. (n, omega arith, in_set))
+-- an account that wasn't reached finds room in the queue
+pub room_for : {out : List ℕ} {queue : Vec ℕ Global} (a c : ℕ) → HasRoom out queue → a < length out → slice_index out a ≡ 0 → 0 < c → length queue.items < vec_capacity queue
+unfolding weight
+room_for {out = out} a c room within unseen some =
+    let more = sum_by-set weight out a c 0 within in
+    let none : weight (slice_index out a) ≡ 0 = ap weight unseen in
+    let one : weight c ≡ 1 = ap (λ (b : Bool). cond b 1 0) (lt-ltb 0 c some) in
+    let most = count_by-le-length (nat_lt 0) (slice_set out a c) in
+    omega (arith, more, none, one, most, length-set out a c, room.number, room.room)

@@ -1,4 +1,4 @@
--- What a step of the search reaches, by the contracts of the crate's own functions; those of its public ones need none of it.
+-- What a step of the search reaches. Contracts of private functions say it; the public ones need none of it.
 -- Each account reached has its capacity in `out`, where the others have 0, and stands in `queue`.
 use Rattle.std.specs.Prelude.{ℕ, ◌≡◌, ◌<◌, ◌≤◌, List, length, slice_index, count_by, nat_lt, vec_capacity, IsTrue}
 use Rattle.std.specs.declared.vec.Vec.{Vec}
@@ -34,4 +34,4 @@ IsSeed g b = (b < g.accounts) × IsTrue (g.is_seed b)
 
 -- One of the accounts that stand in the queue, from a place on, certifies it.
 abbrev pub IsCertifiedFrom : Certificates → Level → List ℕ → ℕ → ℕ → Type 0
-IsCertifiedFrom g level queue start b = (i : ℕ) × (i < length queue) × (start ≤ i) × HasEdge g level (Account (slice_index queue i)) b
+IsCertifiedFrom g level queue start b = (i : ℕ) × (start ≤ i) × (i < length queue) × HasEdge g level (Account (slice_index queue i)) b

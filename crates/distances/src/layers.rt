@@ -15,7 +15,8 @@ fn reach(account: AccountNo, capacity: u32, out: &mut [u32], queue: &mut Vec<Acc
     requires within { account < length out.old }
     requires some { 0 < capacity }
     requires room { HasRoom out.old queue.old }
-    ensures reached { Reaches (λ b. b ≡ account) capacity out.old queue.old.items out.new queue.new.items }
+    ensures reached { Reaches (λ b. b ≡ account) capacity
+        out.old queue.old.items out.new queue.new.items }
     ensures room { HasRoom out.new queue.new }
     ensures reserved { vec_capacity queue.new ≡ vec_capacity queue.old }
 {
@@ -30,7 +31,8 @@ fn follow(cert: &Cert, level: Level, capacity: u32, out: &mut [u32], queue: &mut
     requires within { cert.now.to < length out.old }
     requires some { 0 < capacity }
     requires room { HasRoom out.old queue.old }
-    ensures reached { Reaches (λ b. (b ≡ cert.now.to) × (rank level ≤ rank cert.now.level)) capacity out.old queue.old.items out.new queue.new.items }
+    ensures reached { Reaches (λ b. (b ≡ cert.now.to) × (rank level ≤ rank cert.now.level)) capacity
+        out.old queue.old.items out.new queue.new.items }
     ensures room { HasRoom out.new queue.new }
     ensures reserved { vec_capacity queue.new ≡ vec_capacity queue.old }
 {
@@ -51,7 +53,8 @@ fn reach_seeds<G: CertGraph>(
     requires places { length out.old ≡ (G.certificates graph.now).accounts }
     requires some { 0 < capacity }
     requires room { HasRoom out.old queue.old }
-    ensures reached { Reaches (IsSeed (G.certificates graph.now)) capacity out.old queue.old.items out.new queue.new.items }
+    ensures reached { Reaches (IsSeed (G.certificates graph.now)) capacity
+        out.old queue.old.items out.new queue.new.items }
     ensures room { HasRoom out.new queue.new }
     ensures reserved { vec_capacity queue.new ≡ vec_capacity queue.old }
 {
@@ -78,7 +81,8 @@ fn expand<G: CertGraph>(
     requires places { length out.old ≡ (G.certificates graph.now).accounts }
     requires some { 0 < capacity }
     requires room { HasRoom out.old queue.old }
-    ensures reached { Reaches (HasEdge (G.certificates graph.now) level (Account account)) capacity out.old queue.old.items out.new queue.new.items }
+    ensures reached { Reaches (HasEdge (G.certificates graph.now) level (Account account)) capacity
+        out.old queue.old.items out.new queue.new.items }
     ensures room { HasRoom out.new queue.new }
     ensures reserved { vec_capacity queue.new ≡ vec_capacity queue.old }
 {
@@ -100,11 +104,13 @@ fn expand_layer<G: CertGraph>(
     requires grade { IsGrade level }
     requires readers { GivesEachOnce (G.certificates graph.now) (G.degree_of graph.now) (G.cert_of graph.now) }
     requires start { start ≤ vec_len queue.old }
-    requires accounts { (i : ℕ) → start ≤ i → i < vec_len queue.old → slice_index queue.old.items i < (G.certificates graph.now).accounts }
+    requires accounts { (i : ℕ) → start ≤ i → i < vec_len queue.old →
+        slice_index queue.old.items i < (G.certificates graph.now).accounts }
     requires places { length out.old ≡ (G.certificates graph.now).accounts }
     requires some { 0 < capacity }
     requires room { HasRoom out.old queue.old }
-    ensures reached { Reaches (IsCertifiedFrom (G.certificates graph.now) level queue.old.items start) capacity out.old queue.old.items out.new queue.new.items }
+    ensures reached { Reaches (IsCertifiedFrom (G.certificates graph.now) level queue.old.items start) capacity
+        out.old queue.old.items out.new queue.new.items }
     ensures room { HasRoom out.new queue.new }
     ensures reserved { vec_capacity queue.new ≡ vec_capacity queue.old }
 {
@@ -130,14 +136,13 @@ pub fn search<G: CertGraph>(
     ensures capacities { AreCapacities (G.certificates graph.now) level caps.now (cap_by (entry caps.now 0) out.new) }
     ensures reserved { vec_capacity queue.new ≡ vec_capacity queue.old }
 {
-    // From its end on a table has one entry, so distances aren't told apart there.
-    let end_of_table = caps.entries().len() as u32;
-    let mut distance = 1;
+    let mut distance: u32 = 1;
     reach_seeds(graph, graph.accounts(), caps.at(distance), out, queue);
     let mut start = 0;
     while start < queue.len() {
         let end = queue.len();
-        distance = end_of_table.min(distance + 1);
+        // It stops at a number past every table, where the entry stays the same.
+        distance = distance.saturating_add(1);
         expand_layer(graph, level, start, caps.at(distance), out, queue);
         start = end;
     }

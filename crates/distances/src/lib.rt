@@ -13,7 +13,7 @@ use std::alloc::Global;
 use std::marker::Model;
 use trust_types::{AccountNo, Caps, CertGraph, Level, NoMemory};
 
-/// Where accounts wait during a search. Contracts see for how many it has room.
+/// Where accounts wait during a search. It serves one graph after another, and contracts see for how many accounts.
 #[derive(Drop)]
 pub struct Queue {
     accounts: Vec<AccountNo>,
@@ -27,6 +27,9 @@ impl Model for Queue {
 
 impl Queue {
     /// A queue for graphs of at most so many accounts. It takes all its memory here, four bytes an account.
+    ///
+    /// # Errors
+    /// [`NoMemory`] where that memory can't be had.
     pub fn reserve(alloc: Global, accounts: u32) -> Result<Queue, NoMemory>
         ensures { IfOk result (λ queue. queue ≡ accounts) }
     {
@@ -36,9 +39,11 @@ impl Queue {
     }
 }
 
-/// Writes the capacity of each account at a level, by number: the table's entry at the account's distance from the root,
-/// its last entry where the distance is past the table, and 0 where no walk leads to the account. What `out` had before is lost.
-/// It takes no memory, and time linear in the accounts and certificates.
+/// Writes into `out`, by number, the capacity of each account at a level: the table's entry at its distance from the
+/// root, the last entry where the distance is past the table, and 0 where no walk leads to it. What `out` had before
+/// doesn't matter.
+///
+/// It takes no memory, and time linear in accounts and certificates: it looks at each certificate once at most.
 pub fn capacities<G: CertGraph>(
     graph: &G,
     level: Level,
@@ -49,7 +54,9 @@ pub fn capacities<G: CertGraph>(
     requires grade { IsGrade level }
     requires places { length out.old ≡ (G.certificates graph.now).accounts }
     requires room { (G.certificates graph.now).accounts ≤ queue.old }
+    // The root has the first entry.
     ensures capacities { AreCapacities (G.certificates graph.now) level caps.now (cap_by (entry caps.now 0) out.new) }
+    // It can be used again.
     ensures queue { queue.new ≡ queue.old }
 {
     out.fill(0);

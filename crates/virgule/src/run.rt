@@ -1,13 +1,16 @@
 //! A run of the program.
 
-ghost use Rattle.std.specs.Prelude.{◌≡◌, ℕ, map};
+ghost use Rattle.std.specs.Prelude.{◌≡◌, ℕ, map, IfOk};
+ghost use Rattle.cut_check.specs.declared.proofs.Proof.{Proof};
 ghost use Rattle.virgule.specs.declared.outcome.Outcome.{Outcome};
 ghost use Rattle.virgule.specs.Commands.{command_of};
+ghost use Rattle.virgule.specs.Reports.{IsReport};
 ghost use Rattle.virgule.specs.Runs.{Input, Output, Comes, ComesTo, IsTold};
 
 use crate::canonical::read_proof;
 use crate::command::Command;
 use crate::outcome::{Outcome, Report};
+use crate::reports::report;
 use crate::status::Status;
 use crate::unread::Unread;
 use outside::{InputFault, Sink, Source, read_to_end, write_all};
@@ -55,8 +58,10 @@ fn carry_out<S: Source>(alloc: Global, command: Command, source: &mut S) -> Outc
     }
 }
 
-/// The verdict on the proof that the bytes are.
-fn judge(alloc: Global, bytes: &[u8]) -> Result<Report, Unread> {
-    let _proof = read_proof(alloc, bytes)?;
-    Err(Unread::NotAProof)
+/// What is told of the proof that the bytes are.
+fn judge(alloc: Global, bytes: &[u8]) -> Result<Report, Unread>
+    ensures { IfOk result (λ report. (proof : Proof) × IsReport proof report) }
+{
+    let proof = read_proof(alloc, bytes)?;
+    Ok(report(alloc, &proof)?)
 }

@@ -1,4 +1,4 @@
-use Rattle.std.proofs.Common.{ℕ, ◌≡◌, ◌<◌, ◌-◌, vec_capacity}
+use Rattle.std.proofs.Common.{ℕ, ◌≡◌, ◌<◌, ◌-◌, ◌^◌, vec_capacity}
 use Rattle.std.specs.Prelude.{min}
 use Rattle.distances.specs.Reached.{HasRoom}
 use Rattle.distances.proofs.Layered.{IsLayered}
@@ -8,7 +8,7 @@ abbrev pub invariant-loop-start : goal.invariant-loop-start
 invariant-loop-start g l = record {
   depth : ℕ;
   some : 0 < depth;
-  counted : l.distance ≡ min l.end_of_table depth;
+  counted : l.distance ≡ min depth (2 ^ 32 - 1);
   layered : IsLayered (g.G.CertGraph.certificates l.graph) l.level l.caps depth l.start l.out l.queue.items;
   room : HasRoom l.out l.queue;
   reserved : vec_capacity l.queue ≡ vec_capacity l.fn.queue;
