@@ -17,7 +17,7 @@ use Rattle.trust_types.specs.Lines.{sides_of}
 use Rattle.cut_check.specs.declared.proofs.Proof.{Proof}
 use Rattle.cut_check.specs.declared.checks.RootFigures.{RootFigures}
 use Rattle.cut_check.specs.Rules.{EndsInside}
-use Rattle.cut_check.specs.Firsts.{FindsPair}
+use Rattle.cut_check.specs.Searches.{FindsPair}
 use Rattle.cut_check.specs.Sides.{side_by}
 use Rattle.cut_check.specs.Figures.{AreFigures}
 

@@ -1,5 +1,5 @@
 -- Where all rules hold and the numbers agree, no feasible flow serves more.
-use Rattle.std.proofs.Common.{ℕ, ◌≡◌, ◌≢◌, sym, ◌∙◌, arith}
+use Rattle.std.proofs.Common.{ℕ, ◌≢◌, sym, ◌∙◌, arith}
 use Rattle.trust_types.specs.declared.levels.Level.{Level}
 use Rattle.trust_types.specs.declared.accounts.Node.{Node}
 use Rattle.trust_types.specs.declared.accounts.Node.TheVariants.{Root}

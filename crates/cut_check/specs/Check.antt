@@ -17,7 +17,8 @@ IsVerdictOn p verdict =
     (cap : Node → ℕ) × AreCapacities (certificates p.graph) p.level p.caps cap
     × IsVerdict (certificates p.graph) p.level cap (flow_of p.flow.items) (sides_of p.pass.items p.full.items) verdict
 
--- The proof's flow serves n accounts, with served conduits, and no feasible flow serves more, as its cut of value n shows.
+-- The proof's flow serves n accounts, with served conduits, and no feasible flow serves more, as its cut of value n
+-- shows.
 pub record ServesMost (p : Proof) (n : ℕ) : Type 0 where
   pub capacity : Node → ℕ
   pub capacities : AreCapacities (certificates p.graph) p.level p.caps capacity

@@ -12,8 +12,9 @@ use Rattle.cut_check.specs.declared.checks.RootFigures.{RootFigures}
 use Rattle.cut_check.specs.Sides.{side_by}
 use Rattle.cut_check.specs.Sums.{AreSums}
 
--- The root's figures, and lists of the accounts': the capacities of the nodes, the sums of the flow, the sides of the cut.
-pub record AreFigures (p : Proof) (root : RootFigures) (ins outs : List ℕ) (at : List Side) (caps : List ℕ) : Type 0 where
+-- The root's figures and lists of the accounts': the capacities of the nodes, the sums of the flow, the sides of the cut.
+pub record AreFigures (p : Proof) (root : RootFigures) (ins outs : List ℕ) (at : List Side) (caps : List ℕ) :
+    Type 0 where
   pub capacities : AreCapacities (certificates p.graph) p.level p.caps (cap_by root.capacity caps)
   pub all : length caps ≡ accounts p.graph
   pub sums : AreSums (accounts p.graph) (flow_of p.flow.items) ins outs

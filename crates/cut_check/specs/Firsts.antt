@@ -1,6 +1,6 @@
 -- Where a rule holds, and where it fails first. The root comes before the accounts, which go by number; pairs go by
 -- giver, then by taker.
-use Rattle.std.specs.Prelude.{ℕ, ◌≡◌, ◌<◌, ◌≤◌, ◌⊎◌, Option, Some, None}
+use Rattle.std.specs.Prelude.{ℕ, ◌≡◌, ◌<◌, ◌⊎◌}
 use Rattle.trust_types.specs.declared.accounts.Node.{Node}
 use Rattle.trust_types.specs.declared.accounts.Node.TheVariants.{Root, Account}
 use Rattle.trust_types.specs.Lines.{place}
@@ -17,7 +17,8 @@ FailsFirstAtNode Rule x = FailsFirst (λ y z. place y < place z) Rule x
 
 abbrev pub FailsFirstAtPair : (Node → ℕ → Type 0) → Node → ℕ → Type 0
 FailsFirstAtPair Rule x b =
-    FailsFirst {X = Node × ℕ} (λ p q. (place p.0 < place q.0) ⊎ ((place p.0 ≡ place q.0) × (p.1 < q.1))) (λ p. Rule p.0 p.1) (x, b)
+    FailsFirst {X = Node × ℕ} (λ p q. (place p.0 < place q.0) ⊎ ((place p.0 ≡ place q.0) × (p.1 < q.1)))
+    (λ p. Rule p.0 p.1) (x, b)
 
 -- A rule holds at each of n accounts; at the root and at each of them; at each pair.
 abbrev pub HoldsAtAccounts : ℕ → (ℕ → Type 0) → Type 0
@@ -28,16 +29,3 @@ HoldsAtNodes n Rule = Rule Root × HoldsAtAccounts n (λ a. Rule (Account a))
 
 abbrev pub HoldsAtPairs : (Node → ℕ → Type 0) → Type 0
 HoldsAtPairs Rule = (x : Node) (b : ℕ) → Rule x b
-
--- What a search among n accounts finds: where the rule fails first, or nothing where it holds.
-abbrev pub FindsAccount : ℕ → (ℕ → Type 0) → Option ℕ → Type 0
-FindsAccount n Rule None = HoldsAtAccounts n Rule
-FindsAccount n Rule (Some a) = (a < n) × FailsFirstAtAccount Rule a
-
-abbrev pub FindsNode : ℕ → (Node → Type 0) → Option Node → Type 0
-FindsNode n Rule None = HoldsAtNodes n Rule
-FindsNode n Rule (Some x) = (place x ≤ n) × FailsFirstAtNode Rule x
-
-abbrev pub FindsPair : ℕ → (Node → ℕ → Type 0) → Option (Node × ℕ) → Type 0
-FindsPair n Rule None = HoldsAtPairs Rule
-FindsPair n Rule (Some p) = (place p.0 ≤ n) × (p.1 < n) × FailsFirstAtPair Rule p.0 p.1

@@ -2,9 +2,11 @@ pub mod Proof
 pub mod Rules
 pub mod Firsts
 pub mod Verdict
-pub mod Line
-pub mod Sides
-pub mod Sums
-pub mod Cursor
 pub mod Check
+pub mod Line
+pub mod Searches
+pub mod Cursor
+pub mod Sums
+pub mod Sides
 pub mod Figures
+pub mod Places

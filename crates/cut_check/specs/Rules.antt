@@ -19,7 +19,8 @@ IsBalanced n f a = IsServed n f a ⊎ PassesAllOn n f a
 -- A node passes on at most one unit less than its capacity, and an account of capacity 0 takes no part.
 abbrev pub HasRoom : ℕ → (Node → ℕ) → Flow → Node → Type 0
 HasRoom n cap f Root = units_out n f Root ≤ cap Root - 1
-HasRoom n cap f (Account a) = (units_out n f (Account a) ≤ cap (Account a) - 1) × (cap (Account a) ≡ 0 → units_in n f a ≡ 0)
+HasRoom n cap f (Account a) =
+    (units_out n f (Account a) ≤ cap (Account a) - 1) × (cap (Account a) ≡ 0 → units_in n f a ≡ 0)
 
 -- An account that passes units on is served.
 abbrev pub HasService : ℕ → Flow → ℕ → Type 0

@@ -27,7 +27,7 @@ HaveService n f = HoldsAtAccounts n (HasService n f)
 abbrev pub EndInside : Certificates → Level → Sides → Type 0
 EndInside g level side = HoldsAtPairs (EndsInside g level side)
 
--- All of them.
+-- All of them at all places.
 pub record KeepsRules (g : Certificates) (level : Level) (cap : Node → ℕ) (f : Flow) (side : Sides) : Type 0 where
   pub edges : KeepsToEdges g level f
   pub balance : AreBalanced g.accounts f
@@ -35,7 +35,7 @@ pub record KeepsRules (g : Certificates) (level : Level) (cap : Node → ℕ) (f
   pub service : HaveService g.accounts f
   pub closure : EndInside g level side
 
--- The rules are judged one after the other. Where all hold, as many units as leave the root are compared with the cut's value.
+-- The rules are judged one after the other. Where all hold, the units out of the root are compared with the cut's value.
 abbrev pub IsVerdict : Certificates → Level → (Node → ℕ) → Flow → Sides → Verdict → Type 0
 IsVerdict g level cap f side (NoEdge x b) = FailsFirstAtPair (KeepsToEdge g level f) x b
 IsVerdict g level cap f side (NoBalance a) = KeepsToEdges g level f × FailsFirstAtAccount (IsBalanced g.accounts f) a

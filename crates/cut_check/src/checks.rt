@@ -22,7 +22,8 @@ struct RootFigures {
     side: Side,
 }
 
-/// Judges a proof. It takes no memory, and time linear in the graph and the proof's lists. The scratch can be used again.
+/// Judges a proof: the first rule that fails, at its least place, or that its flow is a greatest one. It takes no memory,
+/// and time linear in the accounts, the certificates and the proof's lists. The scratch can be used again.
 pub fn check(proof: &Proof, scratch: &mut Scratch) -> Verdict
     requires { accounts proof.now.graph ≤ scratch.old }
     ensures verdict { IsVerdictOn proof.now result }

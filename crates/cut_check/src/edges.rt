@@ -10,7 +10,7 @@ ghost use Rattle.trust_types.specs.Rows.{GivesEachOnce};
 ghost use Rattle.trust_types.specs.Lines.{flow_of};
 ghost use Rattle.cut_check.specs.Proof.{IsNodeAmong, IsLineAmong, IsBefore};
 ghost use Rattle.cut_check.specs.Rules.{KeepsToEdge, EndsInside};
-ghost use Rattle.cut_check.specs.Firsts.{FindsAccount, FindsPair};
+ghost use Rattle.cut_check.specs.Searches.{FindsAccount, FindsPair};
 ghost use Rattle.cut_check.specs.Sides.{side_by};
 ghost use Rattle.cut_check.specs.Cursor.{AreLesser, HasPassed};
 
@@ -24,8 +24,8 @@ struct Cursor {
 }
 
 impl Cursor {
-    /// Whether an edge of the level leads from the giver to the taker. Of one giver after the other it is asked with rising
-    /// takers, and then looks once at each certificate.
+    /// Whether an edge of the level leads from the giver to the taker. Asked with rising takers of one giver after the
+    /// other, it looks once at each certificate.
     fn finds<G: CertGraph>(
         &mut self,
         graph: &G,
@@ -37,7 +37,8 @@ impl Cursor {
         requires readers { GivesEachOnce (G.certificates graph.now) (G.degree_of graph.now) (G.cert_of graph.now) }
         requires giver { IsNodeAmong (G.certificates graph.now).accounts giver }
         requires taker { taker < (G.certificates graph.now).accounts }
-        requires passed { self.old.giver ≡ giver → HasPassed (G.degree_of graph.now) (G.cert_of graph.now) giver taker self.old.passed }
+        requires passed { self.old.giver ≡ giver →
+            HasPassed (G.degree_of graph.now) (G.cert_of graph.now) giver taker self.old.passed }
         ensures edge { IsTrue result ↔ HasEdge (G.certificates graph.now) level giver taker }
         ensures giver { self.new.giver ≡ giver }
         ensures passed { HasPassed (G.degree_of graph.now) (G.cert_of graph.now) giver taker self.new.passed }
@@ -55,7 +56,7 @@ impl Cursor {
     }
 }
 
-/// The least pair of a flow line on no edge of the level. One pass over the lines and over the certificates of their givers.
+/// The least pair of a flow line on no edge of the level. One pass over the lines and their givers' certificates.
 pub fn first_missing_edge<G: CertGraph>(
     graph: &G,
     level: Level,
@@ -94,7 +95,8 @@ fn skip_lesser<G: CertGraph>(graph: &G, giver: AccountNo, taker: AccountNo, know
     passed
 }
 
-/// Whether the giver certifies the taker at the level or above, where so many of its certificates are for accounts before.
+/// Whether the giver certifies the taker at the level or above, where just so many of its certificates are for accounts
+/// before the taker.
 fn certifies_at<G: CertGraph>(
     graph: &G,
     level: Level,
@@ -148,7 +150,8 @@ pub fn first_open_edge<G: CertGraph>(
     requires grade { IsGrade level }
     requires readers { GivesEachOnce (G.certificates graph.now) (G.degree_of graph.now) (G.cert_of graph.now) }
     requires sides { length sides.now ≡ (G.certificates graph.now).accounts }
-    ensures { let g = G.certificates graph.now in FindsPair g.accounts (EndsInside g level (side_by root sides.now)) result }
+    ensures { let g = G.certificates graph.now in
+        FindsPair g.accounts (EndsInside g level (side_by root sides.now)) result }
 {
     if let Some(taker) = first_open_taker(graph, level, Node::Root, root, sides) {
         return Some((Node::Root, taker));
@@ -174,7 +177,8 @@ fn first_open_taker<G: CertGraph>(
     requires readers { GivesEachOnce (G.certificates graph.now) (G.degree_of graph.now) (G.cert_of graph.now) }
     requires giver { IsNodeAmong (G.certificates graph.now).accounts giver }
     requires sides { length sides.now ≡ (G.certificates graph.now).accounts }
-    ensures { let g = G.certificates graph.now in FindsAccount g.accounts (EndsInside g level (side_by root sides.now) giver) result }
+    ensures { let g = G.certificates graph.now in
+        FindsAccount g.accounts (EndsInside g level (side_by root sides.now) giver) result }
 {
     match giver {
         Node::Root if passes(root) => first_seed_outside(graph, sides),
@@ -189,7 +193,8 @@ fn first_open_taker<G: CertGraph>(
 fn first_seed_outside<G: CertGraph>(graph: &G, sides: &[Side]) -> Option<AccountNo>
     requires { length sides.now ≡ (G.certificates graph.now).accounts }
     ensures { let g = G.certificates graph.now in
-        FindsAccount g.accounts (λ b. IsTrue (g.is_seed b) → slice_index_or sides.now b Side.Outside ≢ Side.Outside) result }
+        FindsAccount g.accounts
+        (λ b. IsTrue (g.is_seed b) → slice_index_or sides.now b Side.Outside ≢ Side.Outside) result }
 {
     for number in 0..graph.accounts() {
         let account = AccountNo(number);
@@ -212,7 +217,8 @@ fn first_taker_outside<G: CertGraph>(
     requires giver { giver < (G.certificates graph.now).accounts }
     requires sides { length sides.now ≡ (G.certificates graph.now).accounts }
     ensures { let g = G.certificates graph.now in
-        FindsAccount g.accounts (λ b. HasEdge g level (Account giver) b → slice_index_or sides.now b Side.Outside ≢ Side.Outside) result }
+        FindsAccount g.accounts
+        (λ b. HasEdge g level (Account giver) b → slice_index_or sides.now b Side.Outside ≢ Side.Outside) result }
 {
     for i in 0..graph.degree(giver) {
         let cert = graph.given(giver, i);

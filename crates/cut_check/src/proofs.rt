@@ -9,7 +9,9 @@ ghost use Rattle.cut_check.specs.Proof.{IsNodeAmong, IsLineAmong, IsBefore};
 
 use trust_types::{Caps, CertList, FlowLine, Level, Name, Node};
 
-/// A flow and a cut over a graph of certificates, as evidence that no feasible flow of the level serves more.
+/// A flow and a cut over a graph of certificates, as evidence that no feasible flow of the level serves more accounts. Its
+/// lists name no account that the graph hasn't; no name, no pair of the flow and no node of the cut stands twice; and the
+/// root is in the cut.
 #[derive(Drop)]
 pub struct Proof {
     pub caps: Caps,

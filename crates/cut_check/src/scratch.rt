@@ -16,13 +16,14 @@ pub struct Scratch {
 }
 
 impl Model for Scratch {
-    ghost use Rattle.std.specs.Prelude.{ℕ, ◌≡◌, vec_len};
+    ghost use Rattle.std.specs.Prelude.{ℕ, vec_len};
+    ghost use Rattle.cut_check.specs.Places.{HavePlaces};
 
     ghost Value = { ℕ };
 
     ghost view = { λ s. s.queue };
 
-    ghost invariant = { λ s. (vec_len s.into ≡ s.queue) × (vec_len s.out ≡ s.queue) × (vec_len s.sides ≡ s.queue) × (vec_len s.capacities ≡ s.queue) };
+    ghost invariant = { λ s. HavePlaces s.queue (vec_len s.into) (vec_len s.out) (vec_len s.sides) (vec_len s.capacities) };
 }
 
 impl Scratch {

@@ -28,7 +28,8 @@ pub fn lay_out(pass: &[Node], full: &[Node], sides: &mut [Side]) -> Side
 /// Puts the nodes on a side.
 fn put_all(nodes: &[Node], side: Side, root: &mut Side, sides: &mut [Side])
     requires { All (IsNodeAmong (length sides.old)) nodes.now }
-    ensures { (x : Node) → side_by root.new sides.new x ≡ (if list_any (same_node x) nodes.now then side else side_by root.old sides.old x) }
+    ensures { (x : Node) → side_by root.new sides.new x
+        ≡ (if list_any (same_node x) nodes.now then side else side_by root.old sides.old x) }
 {
     for node in nodes {
         put(node, side, root, sides);
@@ -38,7 +39,8 @@ fn put_all(nodes: &[Node], side: Side, root: &mut Side, sides: &mut [Side])
 /// Puts a node on a side.
 fn put(node: &Node, side: Side, root: &mut Side, sides: &mut [Side])
     requires { IsNodeAmong (length sides.old) node.now }
-    ensures { (x : Node) → side_by root.new sides.new x ≡ (if same_node x node.now then side else side_by root.old sides.old x) }
+    ensures { (x : Node) → side_by root.new sides.new x
+        ≡ (if same_node x node.now then side else side_by root.old sides.old x) }
 {
     match node {
         Node::Root => *root = side,
@@ -46,7 +48,7 @@ fn put(node: &Node, side: Side, root: &mut Side, sides: &mut [Side])
     }
 }
 
-/// The cut's value: an account that passes counts once, a full one by its capacity, and a full root by its capacity less one.
+/// The cut's value: a passing account counts once, a full one by its capacity, and a full root by its capacity less one.
 pub fn cut_value(root: Side, root_capacity: u32, sides: &[Side], capacities: &[u32]) -> u64
     requires few { length sides.now < 2 ^ 32 }
     requires capacities { length capacities.now ≡ length sides.now }

@@ -7,7 +7,7 @@ ghost use Rattle.trust_types.specs.Flow.{Flow, units_out};
 ghost use Rattle.trust_types.specs.Lines.{flow_of};
 ghost use Rattle.cut_check.specs.Proof.{IsLineAmong, IsBefore};
 ghost use Rattle.cut_check.specs.Rules.{IsBalanced, HasRoom, HasService};
-ghost use Rattle.cut_check.specs.Firsts.{FindsAccount, FindsNode};
+ghost use Rattle.cut_check.specs.Searches.{FindsAccount, FindsNode};
 ghost use Rattle.cut_check.specs.Sums.{AreSums};
 
 use trust_types::{AccountNo, FlowLine, Node};
