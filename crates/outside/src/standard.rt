@@ -1,5 +1,6 @@
 //! The standard input and output. What they give and take is not told.
-ghost use Rattle.std.specs.Prelude.{◌≡◌, ◌≤◌, None, length, IfOk};
+ghost use Rattle.std.specs.Prelude.{◌≡◌, ◌≤◌, None, length, take, IfOk};
+ghost use Rattle.std.specs.Io.KnownBytes.{ReadConsumes, Appends};
 ghost use Rattle.outside.specs.Standard.{no_reads};
 
 use crate::counts::Count;
@@ -112,11 +113,13 @@ impl Sink for StdSink {
 /// One read, tried again where a signal interrupts it.
 fn read_uninterrupted<R: Read>(reader: &mut R, into: &mut [u8]) -> io::Result<usize>
     ensures bound { IfOk result (λ n. n ≤ length into.new) }
+    ensures bytes { ReadConsumes (R.remaining reader.old) (R.remaining reader.new) result into.new }
 {
     for _ in 0..u64::MAX {
         match reader.read(into) {
             Err(error) if error.kind() == ErrorKind::Interrupted => {}
-            answer => return answer,
+            Err(error) => return Err(error),
+            Ok(n) => return Ok(n),
         }
     }
     Err(ErrorKind::Interrupted.into())
@@ -125,6 +128,7 @@ fn read_uninterrupted<R: Read>(reader: &mut R, into: &mut [u8]) -> io::Result<us
 /// One write and a flush. The write is tried again where a signal interrupts it.
 fn write_and_flush<W: Write>(writer: &mut W, piece: &[u8]) -> io::Result<usize>
     ensures bound { IfOk result (λ n. n ≤ length piece.now) }
+    ensures bytes { IfOk result (λ n. Appends (W.contents writer.old) (W.contents writer.new) (take n piece.now)) }
 {
     for _ in 0..u64::MAX {
         match writer.write(piece) {
