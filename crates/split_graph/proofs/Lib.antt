@@ -8,8 +8,8 @@ pub mod Ways
 pub mod Balance
 pub mod Units
 mod Lists
-mod Listed
+pub mod Listed
 mod Places
 mod Counts
 mod Loaded
-mod Standing
+pub mod Standing

@@ -437,11 +437,6 @@ split_graph s = record {
       (All-get_or (λ y. 0 < y.capacity → IsArc (certificates s.r) s.level y.from y.to) (listed s) found.0 no_arc found.1 (all_arcs s) hit.2));
 }
 
-pub no_self : (s : Listing) (a : ℕ) → HasEdge (certificates s.r) s.level (Account a) a → ⊥
-no_self s a edge =
-    let found = cert_of_edge (certificates s.r) (degree s.r) (given s.r) s.level a a s.readers s.grade edge in
-    s.readers.others a found.0 edge.0 found.1 found.2
-
 seed_ends-zero : (r : Rows) (b : ℕ) → all_ends (seed_arcs r b) 0 ≡ 0
 seed_ends-zero r b = elim (slice_index_or r.seeds b false) as (λ (q : Bool). all_ends (if q then edge_arc Root b unbounded ∷ [] else []) 0 ≡ 0) [
   | true ↦ omega (arith, all_ends-one (edge_arc Root b unbounded) 0, touches-none (edge_arc Root b unbounded) 0 (omega arith) (omega arith))

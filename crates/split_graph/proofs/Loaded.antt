@@ -1,11 +1,12 @@
 -- The arrays that were laid out stand for the split graph.
-use Rattle.std.proofs.Common.{ℕ, ◌+◌, ◌*◌, ◌^◌, ◌≡◌, ◌≢◌, ◌≤◌, ◌<◌, inl, inr, refl, arith, ap, sym, subst, ◌∙◌, List, [], length, get_or}
+use Rattle.std.proofs.Common.{ℕ, ◌+◌, ◌*◌, ◌^◌, ◌≡◌, ◌≢◌, ◌≤◌, ◌<◌, inl, inr, refl, arith, ap, sym, subst, ◌∙◌, List, [], ◌∷◌, length, get_or}
 use Rattle.trust_types.specs.declared.levels.Level.{Level}
 use Rattle.trust_types.specs.declared.levels.Level.TheVariants.{Observer}
 use Rattle.trust_types.specs.declared.accounts.Node.{Node}
 use Rattle.trust_types.specs.declared.accounts.Node.TheVariants.{Root, Account}
 use Rattle.trust_types.specs.Graph.{Certificates}
 use Rattle.trust_types.specs.Capacity.{AreCapacities, cap_by}
+use Rattle.trust_types.specs.Tables.{IsTable}
 use Rattle.trust_types.specs.Rows.{GivesEachOnce}
 use Rattle.trust_types.specs.Layout.{degree, taker, level_given, given}
 use Rattle.frozen.specs.Revision.{Revision, certificates}
@@ -116,6 +117,7 @@ pub record Loading : Type 0 where
   pub caps : List ℕ
   pub readers : GivesEachOnce (certificates graph) (degree graph.rows) (given graph.rows)
   pub grade : level ≢ Observer
+  pub table : IsTable graph.caps
   pub root_fits : root < 2 ^ 32
   pub caps_fit : (a : ℕ) → get_or caps a 0 < 2 ^ 32
   pub n : ℕ
@@ -169,6 +171,7 @@ along_place l (Account a) i b taken =
 pub stands : (l : Loading) (room : Room) → AreCapacities (certificates l.graph) l.level l.graph.caps (cap_by l.root l.caps) → StandsFor (network room l.graph l.level l.n l.t)
 stands l room capacities = record {
   grade = l.grade;
+  table = l.table;
   readers = l.readers;
   arcs = are_arcs (built l);
   accounts = l.size;
@@ -189,7 +192,7 @@ stands l room capacities = record {
   };
 }
 
--- nothing is given in a graph without accounts, and its root has no capacity
+-- what holds of the graph without accounts
 pub nothing_given : GivesEachOnce (certificates nothing) (degree nothing.rows) (given nothing.rows)
 nothing_given = record {
   giver = λ a i below within. absurd (omega arith);
@@ -201,6 +204,19 @@ nothing_given = record {
   complete = λ a b below other some. absurd (omega arith);
 }
 
-pub no_capacities : (level : Level) → AreCapacities (certificates nothing) level [] (cap_by 0 [])
+pub table_of_one : IsTable (1 ∷ [])
+table_of_one =
+    let one : List ℕ = 1 ∷ [] in
+    let first : (i : ℕ) → i < length one → get_or one i 0 ≡ 1 = λ i within. let is : i ≡ 0 = omega arith in ap (λ (k : ℕ). get_or one k 0) is in
+    record {
+      some = omega arith;
+      few = omega arith;
+      least = λ i within. omega (arith, first i within);
+      most = λ i within. omega (arith, first i within);
+      falls = λ i within. absurd (omega arith);
+      end = refl;
+    }
+
+pub no_capacities : (level : Level) → AreCapacities (certificates nothing) level nothing.caps (cap_by 1 [])
 no_capacities level Root = inl (0, distance_of_root (certificates nothing) level, refl)
 no_capacities level (Account a) = inr (λ n walk. omega (arith, walk_within (certificates nothing) level n a walk), refl)

@@ -1,21 +1,24 @@
 -- The arcs go on standing for what rests of the split graph.
-use Rattle.std.proofs.Common.{ℕ, zero, suc, Bool, true, false, ◌+◌, ◌*◌, ◌≡◌, ◌≢◌, ◌≤◌, ◌<◌, inl, inr, refl, arith, ap, sym, ◌∙◌, length-set, set, if◌then◌else◌}
+use Rattle.std.proofs.Common.{ℕ, zero, suc, Bool, true, false, ◌+◌, ◌*◌, ◌≡◌, ◌≢◌, ◌≤◌, ◌<◌, inl, inr, refl, arith, ap, sym, ◌∙◌, length-set, set, if◌then◌else◌, IsTrue}
 use Rattle.std.specs.Prelude.{slice_index_or}
 use Rattle.std.proofs.lemmas.Bool.{cases_lt}
 use Rattle.trust_types.specs.declared.accounts.Node.{Node}
 use Rattle.trust_types.specs.declared.accounts.Node.TheVariants.{Root, Account}
-use Rattle.trust_types.specs.Graph.{HasEdge}
+use Rattle.trust_types.specs.Graph.{Certificates, HasEdge}
 use Rattle.frozen.specs.Revision.{certificates}
-use Rattle.trust_types.specs.Layout.{Rows, accounts, taker}
+use Rattle.trust_types.specs.Layout.{degree, given, Rows, accounts, taker}
+use Rattle.trust_types.specs.declared.levels.Level.{Level}
 use Rattle.split_graph.specs.Split.{first_half, second_half, IsNode, IsArc}
 use Rattle.split_graph.specs.Arcs.{Arcs, LeadsTo, arc_count, head_of, tail_of, rest_of, between, move_one}
-use Rattle.split_graph.specs.Network.{Network, StandsFor, AreInPlace, seeds_before, given_count, IsTaker, arc_along}
+use Rattle.split_graph.specs.Network.{Network, IsSameNetwork, StandsFor, AreInPlace, seeds_before, given_count, IsTaker, arc_along}
 use Rattle.split_graph.specs.Layout.{Table, IsAsLong}
 use Rattle.split_graph.specs.Held.{IsReserved}
 use Rattle.split_graph.proofs.Units.{moves_one, still_arcs, between-arc}
+use Rattle.split_graph.proofs.Sums.{sum_below-next, sum_below-more}
 use Rattle.split_graph.proofs.Shapes.{shape}
 use Rattle.split_graph.proofs.Halves.{first_to_root_second, first_to_other_second}
-use Rattle.split_graph.proofs.Feasible.{edge_along}
+use Rattle.split_graph.proofs.Feasible.{number, edge_along}
+use Rattle.trust_types.proofs.Walks.{cert_of_edge}
 use Rattle.split_graph.proofs.Ways.{both_ways}
 
 -- the arcs lead where they led, whatever rests on them
@@ -36,6 +39,7 @@ still_stands n e stands below some =
     let one = moves_one a stands.arcs e below some in
     record {
       grade = stands.grade;
+      table = stands.table;
       readers = stands.readers;
       arcs = still_arcs a stands.arcs e below some;
       accounts = stands.accounts;
@@ -57,23 +61,37 @@ rests_closed n stands u v none back =
     λ p q no. elim (cases_lt 0 (c p q)) [ inl some ↦ absurd (no (stands.rests.split.only p q some)) | inr nothing ↦ omega arith ] in
     omega (arith, stands.rests.both u v, zero u v none, zero v u back)
 
-no_way_back : (n : Network) → StandsFor n → (x : Node) (i b : ℕ) → IsTaker n.graph.rows x i b → IsArc (certificates n.graph) n.level (first_half (Account b)) (second_half x) → ⊥
-no_way_back n stands Root i b taken arc = first_to_root_second (certificates n.graph).accounts b (shape (certificates n.graph) n.level (2 * b + 2) 1 arc)
-no_way_back n stands (Account a) i b taken arc =
-    let other : a ≢ b = λ same. stands.readers.others a i taken.0 taken.1 (taken.2 ∙ sym same) in
-    first_to_other_second (certificates n.graph).accounts b a other (shape (certificates n.graph) n.level (2 * b + 2) (2 * a + 3) arc)
+no_way_back : (g : Certificates) (level : Level) (x : Node) (b : ℕ) → x ≢ Account b → IsArc g level (first_half (Account b)) (second_half x) → ⊥
+no_way_back g level Root b other arc = first_to_root_second g.accounts b (shape g level (2 * b + 2) 1 arc)
+no_way_back g level (Account a) b other arc = first_to_other_second g.accounts b a (λ same. other (ap Account same)) (shape g level (2 * b + 2) (2 * a + 3) arc)
 
--- nothing rests on the arc of a certificate below the level
-pub closed_arc : (n : Network) → StandsFor n → (x : Node) (i b : ℕ) → IsTaker n.graph.rows x i b → (HasEdge (certificates n.graph) n.level x b → ⊥) → rest_of n.arcs (arc_along n.arcs x i) ≡ 0
-closed_arc n stands x i b taken no_edge =
+-- nothing can be moved along what is no edge
+pub closed_between : (n : Network) → StandsFor n → (x : Node) (b : ℕ) → x ≢ Account b → (HasEdge (certificates n.graph) n.level x b → ⊥) → between n.arcs (second_half x) (first_half (Account b)) ≡ 0
+closed_between n stands x b other no_edge =
+    rests_closed n stands (second_half x) (first_half (Account b)) (λ arc. no_edge (edge_along (certificates n.graph) n.level x b arc)) (no_way_back (certificates n.graph) n.level x b other)
+
+-- no account certifies itself
+pub taker_apart : (n : Network) → StandsFor n → (x : Node) (i b : ℕ) → IsTaker n.graph.rows x i b → x ≢ Account b
+taker_apart n stands Root i b taken same = absurd (cc)
+taker_apart n stands (Account a) i b taken same = stands.readers.others a i taken.0 taken.1 (taken.2 ∙ sym (ap number same))
+
+pub no_self : (n : Network) → StandsFor n → (a : ℕ) → HasEdge (certificates n.graph) n.level (Account a) a → ⊥
+no_self n stands a edge =
+    let found = cert_of_edge (certificates n.graph) (degree n.graph.rows) (given n.graph.rows) n.level a a stands.readers stands.grade edge in
+    stands.readers.others a found.0 edge.0 found.1 found.2
+
+-- what rests on the arc along a certificate
+pub rest_along : (n : Network) → StandsFor n → (x : Node) (i b : ℕ) → IsTaker n.graph.rows x i b → rest_of n.arcs (arc_along n.arcs x i) ≡ between n.arcs (second_half x) (first_half (Account b))
+rest_along n stands x i b taken =
     let leads = stands.places.along x i b taken in
     let e : ℕ = arc_along n.arcs x i in
-    let closed : between n.arcs (second_half x) (first_half (Account b)) ≡ 0 =
-    rests_closed n stands (second_half x) (first_half (Account b)) (λ arc. no_edge (edge_along (certificates n.graph) n.level x b arc)) (no_way_back n stands x i b taken) in
     sym (between-arc n.arcs stands.arcs e leads.within)
     ∙ ap (λ (u : ℕ). between n.arcs u (head_of n.arcs e)) leads.tail
     ∙ ap (between n.arcs (second_half x)) leads.head
-    ∙ closed
+
+-- nothing rests on that of a certificate below the level
+pub closed_arc : (n : Network) → StandsFor n → (x : Node) (i b : ℕ) → IsTaker n.graph.rows x i b → (HasEdge (certificates n.graph) n.level x b → ⊥) → rest_of n.arcs (arc_along n.arcs x i) ≡ 0
+closed_arc n stands x i b taken no_edge = rest_along n stands x i b taken ∙ closed_between n stands x b (taker_apart n stands x i b taken) no_edge
 
 -- of so many seeds there is an i-th one
 seed_after : (r : Rows) (n i : ℕ) → n ≤ accounts r → i < seeds_before r n → (b : ℕ) × IsTaker r Root i b
@@ -87,6 +105,14 @@ seed_after r (suc n) i within less =
             | false ↦ λ seed here. absurd (omega arith)
           ]) refl less
     ]
+
+-- a seed is one of those before any later account
+pub seeds_within : (r : Rows) (b n : ℕ) → b < n → IsTrue (slice_index_or r.seeds b false) → seeds_before r b < seeds_before r n
+seeds_within r b n below seed =
+    let count : ℕ → ℕ = λ a. if slice_index_or r.seeds a false then 1 else 0 in
+    let weight : Bool → ℕ = λ q. if q then 1 else 0 in
+    let one : count b ≡ 1 = ap weight seed in
+    omega (arith, sum_below-next b count, sum_below-more (b + 1) n count (omega arith), one)
 
 -- each of so many edges leads to an account
 pub taker_of : (r : Rows) (x : Node) (i : ℕ) → IsNode (accounts r) x → i < given_count r x → (b : ℕ) × IsTaker r x i b
@@ -107,3 +133,28 @@ still_reserved accounts certs capacity capacity' t t' reserved long same = recor
 
 pub long_after_move : (t : Table) (e k d m : ℕ) → IsAsLong t (record t { rest = set (set t.rest e k) d m })
 long_after_move t e k d m = record { first = refl; next = refl; head = refl; twin = refl; rest = length-set (set t.rest e k) d m ∙ length-set t.rest e k }
+
+-- a move, or two in a row, leave the network the same
+pub same_network : (n : Network) → IsSameNetwork n n
+same_network n = record { room = refl; graph = refl; level = refl; arcs = record { accounts = refl; first = refl; head = refl; twin = refl } }
+
+pub same_network-moved : (n m : Network) (e : ℕ) → IsSameNetwork n m → IsSameNetwork n (record m { arcs = move_one e m.arcs })
+same_network-moved n m e same = record {
+  room = same.room;
+  graph = same.graph;
+  level = same.level;
+  arcs = record { accounts = same.arcs.accounts; first = same.arcs.first; head = same.arcs.head; twin = same.arcs.twin };
+}
+
+pub same_network-twice : (n m k : Network) → IsSameNetwork n m → IsSameNetwork m k → IsSameNetwork n k
+same_network-twice n m k one other = record {
+  room = other.room ∙ one.room;
+  graph = other.graph ∙ one.graph;
+  level = other.level ∙ one.level;
+  arcs = record {
+    accounts = other.arcs.accounts ∙ one.arcs.accounts;
+    first = other.arcs.first ∙ one.arcs.first;
+    head = other.arcs.head ∙ one.arcs.head;
+    twin = other.arcs.twin ∙ one.arcs.twin;
+  };
+}

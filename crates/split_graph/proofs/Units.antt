@@ -1,5 +1,5 @@
 -- One unit moved along an arc is one unit moved between its ends.
-use Rattle.std.proofs.Common.{ℕ, ◌+◌, ◌-◌, ◌^◌, ◌≡◌, ◌≢◌, ◌≤◌, ◌<◌, inl, inr, refl, arith, ap, sym, subst, ◌∙◌, set, get_or-set_same, get_or-set_other, length-set}
+use Rattle.std.proofs.Common.{ℕ, ◌+◌, ◌*◌, ◌-◌, ◌^◌, ◌≡◌, ◌≢◌, ◌≤◌, ◌<◌, inl, inr, refl, arith, ap, sym, subst, ◌∙◌, List, get_or, set, get_or-set_same, get_or-set_other, length-set}
 use Rattle.std.proofs.lemmas.Bool.{cases_eq}
 use Rattle.std.proofs.lemmas.Bool.Decides.{nat_tests}
 use Rattle.trust_types.specs.Sum.{sum_below}
@@ -58,9 +58,6 @@ arc-between a u v some =
     let e = sum_below-some (arc_count a) (λ d. share (tail_of a d) (head_of a d) u v (rest_of a d)) some in
     let h = share_some (tail_of a e.0) (head_of a e.0) u v (rest_of a e.0) e.2 in
     (e.0, e.1, h.0, h.1, h.2)
-
-pub same_graph-moved : (a : Arcs) (e : ℕ) → IsSameGraph a (move_one e a)
-same_graph-moved a e = record { accounts = refl; first = refl; head = refl; twin = refl }
 
 pub twin_apart : (a : Arcs) → AreArcs a → (e : ℕ) → e < arc_count a → twin_of a e ≢ e
 twin_apart a are e below same = are.apart e below (ap (head_of a) same)
@@ -190,3 +187,13 @@ still_arcs a are e below some =
                 ]
           ];
     }
+
+-- the same arcs lead where they led
+pub same_count : (a b : Arcs) → IsSameGraph a b → arc_count b ≡ arc_count a
+same_count a b same = subst (λ (n : ℕ). get_or b.first (2 * n + 3) 0 ≡ arc_count a) (sym same.accounts) (ap (λ (xs : List ℕ). get_or xs (2 * a.accounts + 3) 0) same.first)
+
+pub same_head : (a b : Arcs) → IsSameGraph a b → (e : ℕ) → head_of b e ≡ head_of a e
+same_head a b same e = ap (λ (xs : List ℕ). get_or xs e 0) same.head
+
+pub same_tail : (a b : Arcs) → IsSameGraph a b → (e : ℕ) → tail_of b e ≡ tail_of a e
+same_tail a b same e = same_head a b same (twin_of b e) ∙ ap (λ (xs : List ℕ). head_of a (get_or xs e 0)) same.twin

@@ -1,15 +1,16 @@
 -- What contracts see of a residual graph: the graph and the level that were loaded, and what rests of their split graph.
-use Rattle.std.specs.Prelude.{ℕ, ◌≡◌, ◌<◌, ◌≤◌, ◌+◌, if◌then◌else◌, [], length, IsTrue}
+use Rattle.std.specs.Prelude.{ℕ, ◌≡◌, ◌<◌, ◌≤◌, ◌+◌, if◌then◌else◌, [], ◌∷◌, length, IsTrue}
 use Rattle.trust_types.specs.declared.levels.Level.{Level}
 use Rattle.trust_types.specs.declared.accounts.Node.{Node}
 use Rattle.trust_types.specs.declared.accounts.Node.TheVariants.{Root, Account}
 use Rattle.trust_types.specs.Sum.{sum_below}
 use Rattle.trust_types.specs.Levels.{IsGrade}
+use Rattle.trust_types.specs.Tables.{IsTable}
 use Rattle.trust_types.specs.Rows.{GivesEachOnce}
 use Rattle.trust_types.specs.Layout.{Rows, accounts, degree, taker, given, certificates as certificates_of}
 use Rattle.frozen.specs.Revision.{Revision, certificates}
 use Rattle.split_graph.specs.Split.{first_half, second_half, supersink, IsNode}
-use Rattle.split_graph.specs.Arcs.{Arcs, AreArcs, LeadsTo, first_of, between}
+use Rattle.split_graph.specs.Arcs.{Arcs, AreArcs, IsSameGraph, LeadsTo, first_of, between}
 use Rattle.split_graph.specs.Moved.{RestsOf}
 
 -- For how many accounts and certificates there is room.
@@ -25,14 +26,21 @@ pub record Network : Type 0 where
   pub level : Level
   pub arcs : Arcs
 
+-- The same room, graph, level and arcs, whatever rests on them.
+pub record IsSameNetwork (old new : Network) : Type 0 where
+  pub room : new.room ≡ old.room
+  pub graph : new.graph ≡ old.graph
+  pub level : new.level ≡ old.level
+  pub arcs : IsSameGraph old.arcs new.arcs
+
 -- There is room for the graph.
 pub record Fits (f : Revision) (room : Room) : Type 0 where
   pub accounts : (certificates f).accounts ≤ room.accounts
   pub certs : length f.rows.takers ≤ room.certs
 
--- A graph without accounts, whose root has no capacity.
+-- A graph without accounts, whose root passes nothing on.
 abbrev pub nothing : Revision
-nothing = record { number = 0; caps = []; names = []; rows = record { seeds = []; starts = []; takers = []; levels = [] } }
+nothing = record { number = 0; caps = 1 ∷ []; names = []; rows = record { seeds = []; starts = []; takers = []; levels = [] } }
 
 -- How many seeds there are among the accounts before one.
 abbrev pub seeds_before : Rows → ℕ → ℕ
@@ -63,6 +71,7 @@ pub record AreInPlace (r : Rows) (a : Arcs) : Type 0 where
 -- The arcs stand for what rests of the split graph of what was loaded.
 pub record StandsFor (n : Network) : Type 0 where
   pub grade : IsGrade n.level
+  pub table : IsTable n.graph.caps
   pub readers : GivesEachOnce (certificates n.graph) (degree n.graph.rows) (given n.graph.rows)
   pub arcs : AreArcs n.arcs
   pub accounts : n.arcs.accounts ≡ (certificates n.graph).accounts

@@ -1,7 +1,8 @@
 //! The residual graph: what may still be moved through a split graph.
 
-ghost use Rattle.std.specs.Prelude.{ℕ, ◌≡◌, ◌≢◌, ◌<◌, ◌≤◌, ◌+◌, ◌^◌, length, IfOk};
+ghost use Rattle.std.specs.Prelude.{ℕ, ◌≡◌, ◌<◌, ◌≤◌, ◌+◌, ◌^◌, length, IfOk};
 ghost use Rattle.trust_types.specs.declared.accounts.Node.TheVariants.{Account};
+ghost use Rattle.trust_types.specs.Levels.{IsGrade};
 ghost use Rattle.trust_types.specs.Graph.{HasEdge};
 ghost use Rattle.trust_types.specs.Capacity.{entry, AreCapacities, cap_by};
 ghost use Rattle.frozen.specs.Revision.{certificates};
@@ -50,14 +51,19 @@ impl Model for Residual {
 impl Residual {
     /// Room for the split graphs of sites with at most so many accounts and certificates. All memory is taken here: about
     /// 124 bytes an account and 36 a certificate. Until a graph is loaded it stands for one without accounts.
+    ///
+    /// # Errors
+    /// [`NoMemory`] where that memory can't be had.
     pub fn reserve(alloc: Global, accounts: u32, certs: u32) -> Result<Residual, NoMemory>
         ensures room { IfOk result (λ residual. residual.room ≡ record { accounts = accounts; certs = certs }) }
         ensures empty { IfOk result (λ residual. residual.graph ≡ nothing) }
+        ensures closed { IfOk result (λ residual. (u v : ℕ) → between residual.arcs u v ≡ 0) }
+        ensures stands { IfOk result (λ residual. StandsFor residual) }
     {
         let most_nodes = 2 * accounts as usize + 3;
         let most_arcs = 3 * accounts as usize + certs as usize + 1;
         let mut arcs = Vec::with_capacity(alloc, most_arcs)?;
-        arcs.push_reserved(through_arc(&Node::Root, 0));
+        arcs.push_reserved(through_arc(&Node::Root, 1));
         let mut table = ArcTable::reserve(alloc, most_nodes, most_arcs)?;
         table.build(3, &arcs);
         Ok(Residual {
@@ -71,10 +77,12 @@ impl Residual {
         })
     }
 
-    /// Loads the split graph of a site at a level, where these are the capacities of its accounts there, with no units on its
-    /// arcs. What was loaded before is lost. It takes no memory, and time linear in the accounts and certificates.
+    /// Loads the split graph of a site at a level, where these are the capacities of its accounts there, by number. No units are
+    /// on its arcs. What was loaded before is lost.
+    ///
+    /// It takes no memory, and time linear in accounts and certificates.
     pub fn load(&mut self, frozen: &Frozen, level: Level, caps_of: &[u32])
-        requires grade { level ≢ Level.Observer }
+        requires grade { IsGrade level }
         requires room { Fits frozen.now self.old.room }
         requires places { length caps_of.now ≡ (certificates frozen.now).accounts }
         requires capacities { AreCapacities (certificates frozen.now) level frozen.now.caps (cap_by (entry frozen.now.caps 0) caps_of.now) }
@@ -137,6 +145,7 @@ impl Residual {
         requires node { IsNode (certificates self.now.graph).accounts from }
         requires within { i < given_count self.now.graph.rows from }
         ensures place { result ≡ arc_along self.now.arcs from i }
+        ensures arc { result < arc_count self.now.arcs }
         ensures along { (b : ℕ) → IsTaker self.now.graph.rows from i b → LeadsTo self.now.arcs (second_half from) (first_half (Account b)) result }
         ensures closed { (b : ℕ) → IsTaker self.now.graph.rows from i b → ¬ (HasEdge (certificates self.now.graph) self.now.level from b) → rest_of self.now.arcs result ≡ 0 }
     {

@@ -1,4 +1,5 @@
 use Rattle.std.proofs.Common.{ℕ, ◌≡◌, ◌∙◌, arith, ap, subst, sym, List}
+use Rattle.trust_types.specs.Tables.{IsTable}
 use Rattle.trust_types.specs.Capacity.{entry, AreCapacities, cap_by}
 use Rattle.frozen.specs.Revision.{Revision, certificates}
 use Rattle.split_graph.specs.declared.split_arcs.SplitArc.{SplitArc}
@@ -38,6 +39,7 @@ loading c = record {
   caps = c.args.caps_of.now;
   readers = c.accounts-self-inside.ensures.readers;
   grade = c.requires.grade;
+  table = subst (λ (table : List ℕ). IsTable table) c.caps.ensures c.at-root.ensures.table;
   root_fits = c.at-root.type_inv;
   caps_fit = λ a. omega (arith, c.type_inv.caps_of a);
   n = c.accounts-self-inside.result;

@@ -1,0 +1,6 @@
+mod Trees
+mod Sending
+mod Capacities
+mod Endings
+mod Readings
+mod Results

@@ -1,0 +1,109 @@
+-- A search through a residual graph: the split nodes that it reached, in order. The contracts of the crate's own functions speak of
+-- it; those of its public ones need none of it.
+use Rattle.std.specs.Prelude.{ℕ, Bool, true, false, ◌≡◌, ◌≢◌, ◌<◌, ◌≤◌, List, [], ◌∷◌, ◌++◌, length, slice_index_or, slice_set, count_by}
+use Rattle.split_graph.specs.Split.{supersink, node_count}
+use Rattle.split_graph.specs.Arcs.{Arcs, arc_count, head_of, tail_of, rest_of}
+use Rattle.flow_engine.specs.declared.searches.Place.{Place}
+
+-- The nodes reached, with the arc by which each was, for each split node whether it was, and for how many nodes there is room.
+pub record Reached : Type 0 where
+  pub places : List Place
+  pub seen : List Bool
+  pub room : ℕ
+
+abbrev pub no_place : Place
+no_place = record { node = 0; via = 0; back = 0 }
+
+-- the node at a place of the order, the arc into it, and the place of that arc's tail
+abbrev pub node_at : Reached → ℕ → ℕ
+node_at s i = (slice_index_or s.places i no_place).node
+
+abbrev pub via_at : Reached → ℕ → ℕ
+via_at s i = (slice_index_or s.places i no_place).via
+
+abbrev pub back_at : Reached → ℕ → ℕ
+back_at s i = (slice_index_or s.places i no_place).back
+
+abbrev pub is_seen : Reached → ℕ → Bool
+is_seen s v = slice_index_or s.seen v false
+
+-- How many nodes were reached.
+abbrev pub reached_count : Reached → ℕ
+reached_count s = length s.places
+
+-- The search has room for the split nodes of so many accounts.
+pub record HasRoom (n : ℕ) (s : Reached) : Type 0 where
+  pub seen : node_count n ≤ length s.seen
+  pub places : length s.seen ≤ s.room
+
+-- Each node reached but the source stands after the tail of the arc into it.
+pub record IsTree (a : Arcs) (s : Reached) : Type 0 where
+  pub has_source : 0 < reached_count s
+  pub source : node_at s 0 ≡ 0
+  pub below : (i : ℕ) → i < reached_count s → node_at s i < supersink a.accounts
+  pub earlier : (i : ℕ) → 0 < i → i < reached_count s → back_at s i < i
+  pub arc : (i : ℕ) → 0 < i → i < reached_count s → via_at s i < arc_count a
+  pub tail : (i : ℕ) → 0 < i → i < reached_count s → tail_of a (via_at s i) ≡ node_at s (back_at s i)
+  pub head : (i : ℕ) → 0 < i → i < reached_count s → head_of a (via_at s i) ≡ node_at s i
+  pub passable : (i : ℕ) → 0 < i → i < reached_count s → 0 < rest_of a (via_at s i)
+  pub apart : (i j : ℕ) → i < j → j < reached_count s → node_at s i ≢ node_at s j
+  pub marked : (i : ℕ) → i < reached_count s → is_seen s (node_at s i) ≡ true
+  pub only : (v : ℕ) → is_seen s v ≡ true → (i : ℕ) × (i < reached_count s) × (node_at s i ≡ v)
+  pub number : count_by (λ b. b) s.seen ≡ reached_count s
+
+-- If anything can be moved along the arc, it leads to a node that was reached, and not to the supersink.
+abbrev pub IsLookedAt : Arcs → Reached → ℕ → Type 0
+IsLookedAt a s e = 0 < rest_of a e → (head_of a e ≢ supersink a.accounts) × (is_seen s (head_of a e) ≡ true)
+
+-- All that can be reached from the node at a place was reached, and the supersink cannot.
+abbrev pub IsDone : Arcs → Reached → ℕ → Type 0
+IsDone a s i = (e : ℕ) → e < arc_count a → tail_of a e ≡ node_at s i → IsLookedAt a s e
+
+-- The same of all places before one.
+abbrev pub AreDone : Arcs → Reached → ℕ → Type 0
+AreDone a s at = (i : ℕ) → i < at → IsDone a s i
+
+-- One node more, by an arc from the node at a place.
+abbrev pub reach : ℕ → ℕ → ℕ → Reached → Reached
+reach node arc at s = record {
+  places = s.places ++ record { node = node; via = arc; back = at } ∷ [];
+  seen = slice_set s.seen node true;
+  room = s.room;
+}
+
+-- A search that is about to look at the node at a place.
+pub record IsSearching (a : Arcs) (s : Reached) (at : ℕ) : Type 0 where
+  pub room : HasRoom a.accounts s
+  pub tree : IsTree a s
+  pub done : AreDone a s at
+
+-- What was reached stays, in its place.
+pub record IsGrown (old new : Reached) : Type 0 where
+  pub count : reached_count old ≤ reached_count new
+  pub node : (i : ℕ) → i < reached_count old → node_at new i ≡ node_at old i
+  pub seen : (v : ℕ) → is_seen old v ≡ true → is_seen new v ≡ true
+  pub room : new.room ≡ old.room
+  pub long : length new.seen ≡ length old.seen
+
+-- An arc along which a unit can go from the node at a place to the supersink.
+pub record EndsWay (a : Arcs) (s : Reached) (at e : ℕ) : Type 0 where
+  pub within : e < arc_count a
+  pub tail : tail_of a e ≡ node_at s at
+  pub head : head_of a e ≡ supersink a.accounts
+  pub passable : 0 < rest_of a e
+
+-- A way from the source to the supersink, whose last arc leaves the node at a place.
+pub record IsWay (a : Arcs) (s : Reached) (at e : ℕ) : Type 0 where
+  pub placed : at < reached_count s
+  pub done : AreDone a s at
+  pub ends : EndsWay a s at e
+
+-- Only the source was reached.
+pub record IsBegun (old new : Reached) : Type 0 where
+  pub count : reached_count new ≡ 1
+  pub source : node_at new 0 ≡ 0
+  pub marked : is_seen new 0 ≡ true
+  pub only : (v : ℕ) → is_seen new v ≡ true → v ≡ 0
+  pub number : count_by (λ b. b) new.seen ≡ 1
+  pub room : new.room ≡ old.room
+  pub long : length new.seen ≡ length old.seen

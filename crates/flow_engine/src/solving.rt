@@ -1,0 +1,152 @@
+//! The greatest flow of a site at a level.
+
+ghost use Rattle.std.specs.Prelude.{ℕ, ◌≡◌, ◌<◌, ◌≤◌, IfOk, length};
+ghost use Rattle.trust_types.specs.declared.accounts.Node.TheVariants.{Root, Account};
+ghost use Rattle.trust_types.specs.Levels.{IsGrade};
+ghost use Rattle.trust_types.specs.Flow.{is_served};
+ghost use Rattle.trust_types.specs.Layout.{degree, taker};
+ghost use Rattle.frozen.specs.Revision.{certificates};
+ghost use Rattle.split_graph.specs.Split.{IsNode};
+ghost use Rattle.split_graph.specs.Arcs.{between};
+ghost use Rattle.split_graph.specs.Network.{Fits, StandsFor};
+ghost use Rattle.flow_engine.specs.Solved.{IsSolved, flow_in, sides_in};
+ghost use Rattle.flow_engine.specs.Held.{IsLoaded};
+
+use crate::reading::{read_root_units, units_along};
+use crate::searches::Search;
+use distances::{Queue, capacities};
+use frozen::Frozen;
+use split_graph::{Residual, first_half, second_half, supersink};
+use std::alloc::Global;
+use std::marker::Model;
+use std::sync::ledger::Ledger;
+use trust_types::{AccountNo, CertGraph, Level, NoMemory, Node, Side, Steps};
+
+/// Loads the split graph of a site at a level. The list has a place for the capacity of each account.
+fn load(
+    frozen: &Frozen,
+    level: Level,
+    places: &mut [u32],
+    queue: &mut Queue,
+    residual: &mut Residual,
+)
+    requires grade { IsGrade level }
+    requires room { Fits frozen.now residual.old.room }
+    requires places { (certificates frozen.now).accounts ≤ length places.old }
+    requires queue { (certificates frozen.now).accounts ≤ queue.old }
+    ensures room { residual.new.room ≡ residual.old.room }
+    ensures graph { residual.new.graph ≡ frozen.now }
+    ensures level { residual.new.level ≡ level }
+    ensures loaded { IsLoaded frozen.now level (between residual.new.arcs) }
+    ensures stands { StandsFor residual.new }
+    ensures queue { queue.new ≡ queue.old }
+{
+    let capacities_of = &mut places[..frozen.accounts() as usize];
+    capacities(frozen, level, frozen.caps(), capacities_of, queue);
+    residual.load(frozen, level, capacities_of);
+}
+
+/// The memory of the engine. Contracts see the room that was reserved, the graph and the level that were solved, and the flow and
+/// the cut that were found.
+#[derive(Drop)]
+pub struct Workspace {
+    residual: Residual,
+    search: Search,
+    queue: Queue,
+    capacities: Vec<u32>,
+    root_units: Vec<u32>,
+}
+
+impl Model for Workspace {
+    ghost use Rattle.flow_engine.specs.Solved.{Solved};
+    ghost use Rattle.flow_engine.specs.Held.{IsReserved, IsReadable};
+
+    ghost Value = { Solved };
+
+    ghost view = { λ w. record { network = w.residual; reached = w.search.seen } };
+
+    ghost invariant = { λ w. IsReserved w.residual.room.accounts w.search w.queue w.capacities.items w.root_units.items × IsReadable w.residual w.root_units.items };
+}
+
+impl Workspace {
+    /// Room to solve sites with at most so many accounts and certificates. All memory is taken here. Until one is solved it stands for a
+    /// site without accounts.
+    ///
+    /// # Errors
+    /// [`NoMemory`] where that memory can't be had.
+    pub fn reserve(alloc: Global, accounts: u32, certs: u32) -> Result<Workspace, NoMemory>
+        ensures { IfOk result (λ workspace. workspace.network.room ≡ record { accounts = accounts; certs = certs }) }
+    {
+        Ok(Workspace {
+            residual: Residual::reserve(alloc, accounts, certs)?,
+            search: Search::reserve(alloc, 2 * accounts as usize + 3)?,
+            queue: Queue::reserve(alloc, accounts)?,
+            capacities: vec![in alloc; 0; accounts as usize]?,
+            root_units: vec![in alloc; 0; accounts as usize]?,
+        })
+    }
+
+    /// Finds a greatest flow of a site at a level whose conduits are served, and a cut of equal value. What was found before is lost.
+    ///
+    /// It takes no memory. `steps` counts the arcs that it looks at.
+    pub fn solve<L: Ledger>(&mut self, frozen: &Frozen, level: Level, steps: &mut Steps<L>)
+        requires grade { IsGrade level }
+        requires room { Fits frozen.now self.old.network.room }
+        ensures room { self.new.network.room ≡ self.old.network.room }
+        ensures graph { self.new.network.graph ≡ frozen.now }
+        ensures level { self.new.network.level ≡ level }
+        ensures solved { IsSolved (certificates frozen.now) level frozen.now.caps (flow_in self.new) (sides_in self.new) }
+    {
+        let accounts = frozen.accounts();
+        load(
+            frozen,
+            level,
+            &mut self.capacities,
+            &mut self.queue,
+            &mut self.residual,
+        );
+        self.search
+            .send_all(&mut self.residual, supersink(accounts), steps);
+        read_root_units(&self.residual, frozen, accounts, &mut self.root_units);
+    }
+
+    /// Whether the flow serves an account.
+    pub fn served(&self, account: AccountNo) -> bool
+        requires { account < (certificates self.now.network.graph).accounts }
+        ensures { result ≡ is_served (certificates self.now.network.graph).accounts (flow_in self.now) account }
+    {
+        let through = self.residual.first(first_half(&Node::Account(account)));
+        self.residual.rest(through + 1) == 0
+    }
+
+    /// The units that the flow sends along the i-th certificate that an account gives, counted from 0.
+    pub fn units(&self, account: AccountNo, i: u32) -> u32
+        requires account { account < (certificates self.now.network.graph).accounts }
+        requires within { i < degree self.now.network.graph.rows account }
+        ensures { result ≡ flow_in self.now (Account account) (taker self.now.network.graph.rows account i) }
+    {
+        units_along(&self.residual, Node::Account(account), i)
+    }
+
+    /// The units that the flow sends from the root to an account.
+    pub fn root_units(&self, account: AccountNo) -> u32
+        requires { account < (certificates self.now.network.graph).accounts }
+        ensures { result ≡ flow_in self.now Root account }
+    {
+        self.root_units[account.index()]
+    }
+
+    /// The side of the cut on which a node lies.
+    pub fn side(&self, node: Node) -> Side
+        requires { IsNode (certificates self.now.network.graph).accounts node }
+        ensures { result ≡ sides_in self.now node }
+    {
+        if !self.search.has(first_half(&node)) {
+            return Side::Outside;
+        }
+        if self.search.has(second_half(&node)) {
+            return Side::Pass;
+        }
+        Side::Full
+    }
+}
