@@ -1,0 +1,4 @@
+mod Cutting
+mod Digits
+mod Lining
+pub mod Following

@@ -1,0 +1,5 @@
+pub mod Words
+pub mod Unread
+pub mod Numbers
+pub mod Faults
+pub mod Reading
