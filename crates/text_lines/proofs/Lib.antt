@@ -1,4 +1,5 @@
 mod Cutting
 mod Digits
+pub mod Joining
 mod Lining
 pub mod Following
