@@ -1,2 +1,4 @@
 mod Spelling
 mod Recorded
+mod Placed
+mod SiteSteps
