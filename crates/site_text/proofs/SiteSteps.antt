@@ -26,6 +26,7 @@ use Rattle.site_lines.specs.Site.{join, seed, cert, account_line, seed_line, cer
 use Rattle.cut_check.specs.Line.{name_of}
 use Rattle.site_text.specs.Canonical.{account_words, seed_words, cert_words}
 use Rattle.site_text.proofs.Spelling.{AreNames, name_at, number_of-name, is_word-name, is_word-level, level_of-name}
+use Rattle.site_text.proofs.Wording.{account-worded, seed-worded, cert-worded}
 use Rattle.site_text.proofs.Placed.{IsPlaced, placed, of_all, of_pairs}
 use Rattle.site_text.proofs.Recorded.{records, cert_record, accounts-records, certs-records, is_seed-records, is_among, standing_count-le}
 
@@ -70,9 +71,7 @@ account-step names before name rest are e =
     let new : number_of (accounts (records before [] [])) name ≡ None =
         ap (λ ns. number_of ns name) known ∙ not_found before name (of_pairs (λ a b. a ≢ b) before name names at are.apart) in
     let few : length (accounts (records before [] [])) < 100000 = rw known (omega (arith, are.few, at.within)) in
-    let word : is_word name ≡ true = is_word-name name named in
-    let each : list_all is_word (account_words name) ≡ true = rw word refl in
-    site_line-join (records before [] []) (account_words name) (join name) (omega arith) each (account-form (records before [] []) name named new few)
+    site_line-join (records before [] []) (account_words name) (join name) (omega arith) (account-worded name named) (account-form (records before [] []) name named new few)
     ∙ ap Ok (records-account before name)
 
 seed-form : (k : List Record) (name : List ℕ) (a : ℕ) → IsName name → number_of (accounts k) name ≡ Some a → is_seed k a ≡ false → form k (codes "seed" ∷ name ∷ []) ≡ Ok (seed a)
@@ -94,9 +93,7 @@ seed-step names seeds before a rest are within rises e =
         ap (λ ns. number_of ns (name_of names a)) (accounts-records names before []) ∙ number_of-name names are a below in
     let new : is_seed (records names before []) a ≡ false =
         is_seed-records names before [] a ∙ apart_from before a (of_pairs (λ x y. x < y) before a seeds at (AllPairs-from_increasing seeds rises)) in
-    let word : is_word (name_of names a) ≡ true = is_word-name (name_of names a) named in
-    let each : list_all is_word (seed_words names a) ≡ true = rw word refl in
-    site_line-join (records names before []) (seed_words names a) (seed a) (omega arith) each (seed-form (records names before []) (name_of names a) a named found new)
+    site_line-join (records names before []) (seed_words names a) (seed a) (omega arith) (seed-worded names are a below) (seed-form (records names before []) (name_of names a) a named found new)
     ∙ ap Ok (records-seed names before a)
 
 cert-form : (k : List Record) (giver taker : List ℕ) (a b : ℕ) (level : Level) → IsName giver → IsName taker → number_of (accounts k) giver ≡ Some a → number_of (accounts k) taker ≡ Some b →
@@ -124,10 +121,7 @@ cert-step names seeds certs before c rest are stand e =
         ap certs_of (records-cert names seeds before c) ∙ certs-records names seeds (before ++ c ∷ []) in
     let few : standing_count (certs_of (records names seeds before ++ cert_record c ∷ [])) ≤ 2000000 =
         rw all (omega (arith, standing_count-le (before ++ c ∷ []), length_push before c, at.within, stand.few)) in
-    let word_giver : is_word (name_of names c.from) ≡ true = is_word-name (name_of names c.from) named_giver in
-    let word_taker : is_word (name_of names c.to) ≡ true = is_word-name (name_of names c.to) named_taker in
-    let each : list_all is_word (cert_words names c) ≡ true = rw (word_giver, word_taker, is_word-level c.level) refl in
-    site_line-join (records names seeds before) (cert_words names c) (cert_record c) (omega arith) each
+    site_line-join (records names seeds before) (cert_words names c) (cert_record c) (omega arith) (cert-worded names are c among)
         (cert-form (records names seeds before) (name_of names c.from) (name_of names c.to) c.from c.to c.level named_giver named_taker found_giver found_taker among.others few)
     ∙ ap Ok (records-cert names seeds before c)
 
@@ -139,4 +133,15 @@ site_lines names seeds certs =
 -- They are read as its records.
 pub reading-site : (names : List (List ℕ)) (seeds : List ℕ) (certs : List Cert) → AreNames names → All (λ a. a < length names) seeds → IsStrictlyIncreasing seeds →
     CanStand (length names) certs → reading site_line 2 [] (site_lines names seeds certs) ≡ Ok (records names seeds certs)
-reading-site names seeds certs are within rises stand = ?
+reading-site names seeds certs are within rises stand =
+    let accounts_are : reading site_line 2 [] (map (λ name. spaced (account_words name)) names) ≡ Ok (records names [] []) =
+        reading-each site_line 2 (λ name. spaced (account_words name)) (λ before. records before [] []) names (λ before name rest e. account-step names before name rest are e) in
+    let seeds_are : (n : ℕ) → reading site_line n (records names [] []) (map (λ a. spaced (seed_words names a)) seeds) ≡ Ok (records names seeds []) = λ n.
+        reading-each site_line n (λ a. spaced (seed_words names a)) (λ before. records names before []) seeds (λ before a rest e. seed-step names seeds before a rest are within rises e) in
+    let certs_are : (n : ℕ) → reading site_line n (records names seeds []) (map (λ c. spaced (cert_words names c)) certs) ≡ Ok (records names seeds certs) = λ n.
+        reading-each site_line n (λ c. spaced (cert_words names c)) (λ before. records names seeds before) certs (λ before c rest e. cert-step names seeds certs before c rest are stand e) in
+    let front : reading site_line 2 [] (map (λ name. spaced (account_words name)) names ++ map (λ a. spaced (seed_words names a)) seeds) ≡ Ok (records names seeds []) =
+        reading-append site_line 2 [] (records names [] []) (map (λ name. spaced (account_words name)) names) (map (λ a. spaced (seed_words names a)) seeds) accounts_are
+        ∙ seeds_are _ in
+    reading-append site_line 2 [] (records names seeds []) (map (λ name. spaced (account_words name)) names ++ map (λ a. spaced (seed_words names a)) seeds) (map (λ c. spaced (cert_words names c)) certs) front
+    ∙ certs_are _

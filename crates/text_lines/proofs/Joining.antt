@@ -64,7 +64,7 @@ goes_on-join (w ∷ v ∷ ws) e =
     list_all-append goes_on w (32 ∷ join_with_byte 32 (v ∷ ws))
     ∙ and_true (list_all goes_on w) (list_all goes_on (join_with_byte 32 (v ∷ ws))) (graphic_goes_on w (both _ (list_all is_graphic w) first.0).1) (goes_on-join (v ∷ ws) first.1)
 
-not_true : (b : Bool) → not b ≡ true → b ≡ false
+pub not_true : (b : Bool) → not b ≡ true → b ≡ false
 not_true true e = sym e
 not_true false e = refl
 
