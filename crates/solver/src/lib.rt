@@ -1,0 +1,4 @@
+//! The rosters of a site, found by the engine.
+#![tactic(auto)]
+
+mod reading;
