@@ -1,11 +1,12 @@
 //! The roster of a level, with the flow and the cut that prove it.
 
-ghost use Rattle.std.specs.Prelude.{◌≢◌};
+ghost use Rattle.std.specs.Prelude.{◌≡◌, ◌≢◌, ◌↔◌, Contains, IsTrue};
 ghost use Rattle.trust_types.specs.declared.accounts.Node.TheVariants.{Root};
 ghost use Rattle.trust_types.specs.declared.flows.Side.TheVariants.{Outside};
 ghost use Rattle.trust_types.specs.Levels.{IsGrade};
 ghost use Rattle.trust_types.specs.Lines.{sides_of};
 ghost use Rattle.trust_types.specs.Proven.{AreInOrder};
+ghost use Rattle.roster_form.specs.Bounded.{is_accepted};
 
 use trust_types::{AccountNo, FlowLine, Level, Node};
 
@@ -26,4 +27,14 @@ pub struct LevelRoster {
     pub ghost grade: { IsGrade level },
     pub ghost in_order: { AreInOrder (record { served = served.items; flow = flow.items; pass = pass.items; full = full.items }) },
     pub ghost root: { sides_of pass.items full.items Root ≢ Outside },
+}
+
+impl LevelRoster {
+    /// Whether the roster has an account: a binary search.
+    pub fn has(&self, account: AccountNo) -> bool
+        ensures value { result ≡ is_accepted self.now.served.items account }
+        ensures contained { IsTrue result ↔ Contains self.now.served.items account }
+    {
+        self.served.binary_search(&account).is_ok()
+    }
 }
