@@ -1,5 +1,5 @@
 -- Lists of items found one after another.
-use Rattle.std.proofs.Common.{ℕ, zero, ◌+◌, ◌≡◌, ◌<◌, List, [], ◌∷◌, ◌++◌, length, get_or, AllPairs, Contains, ◌↔◌, inl, inr, refl, sym, subst, ap, arith}
+use Rattle.std.proofs.Common.{ℕ, ◌+◌, ◌≡◌, ◌<◌, List, [], ◌∷◌, ◌++◌, get_or, AllPairs, Contains, inl, inr, refl, sym, subst, ap, arith}
 use Rattle.std.specs.List.Sorted.{IsStrictlyIncreasing}
 use Rattle.std.proofs.lemmas.Bool.{cases_lt}
 use Rattle.std.proofs.lemmas.List.Quantifiers.{all_pairs_push}
@@ -35,7 +35,7 @@ lists_past {X} number Holds apart at xs x lists here not_so = record {
       | inl before ↦ (lists.listed y).0 (before, holds)
       | inr last ↦ absurd (not_so (subst Holds (apart y x (omega arith)) holds))
     ],
-    λ found. let was = (lists.listed y).1 found in (omega (arith, was.0), was.1)
+    λ found. let was = (lists.listed y).1 found in (omega (arith, was.0), was.1),
   );
 }
 
@@ -52,7 +52,7 @@ lists_more {X} number Holds apart at xs x lists here so = record {
     λ found. elim (Contains-push_cases xs x y found) [
       | inl before ↦ let was = (lists.listed y).1 before in (omega (arith, was.0), was.1)
       | inr same ↦ let at_y : number x ≡ number y = ap number same in (omega arith, subst Holds same so)
-    ]
+    ],
   );
 }
 

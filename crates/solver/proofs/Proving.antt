@@ -1,7 +1,7 @@
 -- Lists written from a solution prove their roster.
-use Rattle.std.proofs.Common.{ℕ, Bool, true, false, ◌+◌, ◌≡◌, ◌≢◌, ◌<◌, ◌≤◌, ◌↔◌, List, length, get_or, Contains, inl, inr, refl, sym, subst, ap, ◌∙◌, arith, cond}
+use Rattle.std.proofs.Common.{ℕ, Bool, true, false, ◌+◌, ◌≡◌, ◌<◌, List, Contains, refl, sym, subst, ap, ◌∙◌, arith, cond}
 use Rattle.std.specs.List.{list_any}
-use Rattle.std.proofs.lemmas.Bool.{cases_Bool, cond-true, cond-false, eqb-true, eq-eqb, false_from_ne_true}
+use Rattle.std.proofs.lemmas.Bool.{eqb-true, eq-eqb}
 use Rattle.std.proofs.lemmas.List.Folds.{Any-from_list_any, list_any-from_Any}
 use Rattle.trust_types.specs.declared.levels.Level.{Level}
 use Rattle.trust_types.specs.declared.accounts.Node.{Node}
@@ -9,15 +9,13 @@ use Rattle.trust_types.specs.declared.accounts.Node.TheVariants.{Root, Account}
 use Rattle.trust_types.specs.declared.flows.FlowLine.{FlowLine}
 use Rattle.trust_types.specs.declared.flows.Side.{Side}
 use Rattle.trust_types.specs.declared.flows.Side.TheVariants.{Outside, Pass, Full}
-use Rattle.trust_types.specs.declared.graphs.Cert.{Cert}
 use Rattle.trust_types.specs.Levels.{IsGrade}
 use Rattle.trust_types.specs.Graph.{Certificates, HasEdge}
 use Rattle.trust_types.specs.Rows.{GivesEachOnce}
-use Rattle.trust_types.specs.Flow.{Flow, IsServed, total}
+use Rattle.trust_types.specs.Flow.{Flow, IsServed}
 use Rattle.trust_types.specs.Cut.{Sides, IsCut, value, account_share, root_share}
-use Rattle.trust_types.specs.Roster.{Serves}
 use Rattle.trust_types.specs.Lines.{place, same_node, flow_of, sides_of}
-use Rattle.trust_types.specs.Layout.{Rows, certificates, degree, taker, given}
+use Rattle.trust_types.specs.Layout.{Rows, certificates, degree, given}
 use Rattle.trust_types.specs.Proven.{Lists, AreInOrder, Proves, IsProven}
 use Rattle.trust_types.proofs.Sums.{sum_below-eq}
 use Rattle.trust_types.proofs.Walks.{edge_within, cert_of_edge}
@@ -80,7 +78,7 @@ value_same : (g : Certificates) (cap : Node → ℕ) (side other : Sides) → ((
 value_same g cap side other same =
     let root : root_share (other Root) (cap Root) ≡ root_share (side Root) (cap Root) = ap (λ (s : Side). root_share s (cap Root)) (same Root (omega arith)) in
     let rest = sum_below-eq g.accounts (λ x. account_share (other (Account x)) (cap (Account x))) (λ x. account_share (side (Account x)) (cap (Account x)))
-        (λ x below. ap (λ (s : Side). account_share s (cap (Account x))) (same (Account x) (omega arith))) in
+    (λ x below. ap (λ (s : Side). account_share s (cap (Account x))) (same (Account x) (omega arith))) in
     omega (arith, root, rest)
 
 -- lists written from a solution

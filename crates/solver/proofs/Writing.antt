@@ -1,15 +1,14 @@
 -- The lines of a flow, written one after another.
-use Rattle.std.proofs.Common.{ℕ, Bool, true, false, ◌+◌, ◌≡◌, ◌<◌, ◌≤◌, ◌==◌, ◌&&◌, ◌||◌, ◌⊎◌, List, [], ◌∷◌, ◌++◌, length, get_or, All, AllPairs, inl, inr, refl, sym, subst, ap, ◌∙◌, arith, nat_lt, cond, sum_by}
+use Rattle.std.proofs.Common.{ℕ, Bool, true, false, ◌+◌, ◌≡◌, ◌<◌, ◌≤◌, ◌==◌, ◌&&◌, ◌||◌, ◌⊎◌, List, [], ◌∷◌, ◌++◌, get_or, inl, inr, refl, sym, subst, ap, ◌∙◌, arith, nat_lt, cond}
 use Rattle.std.proofs.lemmas.Bool.{cases_lt, cases_Bool, cond-true, cond-false, lt-ltb, le-ltb}
 use Rattle.std.proofs.lemmas.Bool.Decides.{nat_tests}
 use Rattle.std.proofs.lemmas.List.Quantifiers.{all_pairs_push}
-use Rattle.std.proofs.lemmas.List.Elements.{All-nil, All-push, All-weaker, All-get_or}
+use Rattle.std.proofs.lemmas.List.Elements.{All-nil, All-push, All-weaker}
 use Rattle.std.proofs.lemmas.List.Sums.{sum_by_push}
 use Rattle.trust_types.specs.declared.accounts.Node.{Node}
 use Rattle.trust_types.specs.declared.accounts.Node.TheVariants.{Root, Account}
 use Rattle.trust_types.specs.declared.flows.FlowLine.{FlowLine}
 use Rattle.trust_types.specs.Flow.{Flow}
-use Rattle.trust_types.specs.Graph.{Certificates}
 use Rattle.trust_types.specs.Rows.{GivesEachOnce}
 use Rattle.trust_types.specs.Layout.{Rows, accounts, certificates, degree, taker, given}
 use Rattle.trust_types.specs.Lines.{place, same_node, flow_of, is_before}
@@ -69,24 +68,24 @@ written_past f at b to c lines is order none = record {
   some = is.some;
   rises = is.rises;
   earlier = All-weaker (λ (l : FlowLine). is_earlier l.from l.to at b ≡ true) (λ (l : FlowLine). is_earlier l.from l.to to c ≡ true)
-  (λ l before. early_later (place l.from) l.to at b to c order before) lines is.earlier;
+      (λ l before. early_later (place l.from) l.to at b to c order before) lines is.earlier;
   units = λ x d. units_past (is_earlier x d at b) (is_earlier x d to c) (flow_of lines x d) (f x d) (is.units x d)
-  (early_later (place x) d at b to c order) (none x d);
+      (early_later (place x) d at b to c order) (none x d);
 }
 
 -- in the row of a node
 pub written_to : (f : Flow) (x : Node) (b c : ℕ) (lines : List FlowLine) → IsWritten f (place x) b lines → b ≤ c → ((d : ℕ) → b ≤ d → d < c → f x d ≡ 0) → IsWritten f (place x) c lines
 written_to f x b c lines is order none = written_past f (place x) b (place x) c lines is (inr (refl, order))
     (λ y d before not_before.
-      let here : x ≡ y = same_place x y (sym (early_at (place y) d (place x) b c before not_before)) in
-      subst (λ z. f z d ≡ 0) here (none d (early_from (place y) d (place x) b c before not_before) (early_to (place y) d (place x) b c before not_before)))
+    let here : x ≡ y = same_place x y (sym (early_at (place y) d (place x) b c before not_before)) in
+    subst (λ z. f z d ≡ 0) here (none d (early_from (place y) d (place x) b c before not_before) (early_to (place y) d (place x) b c before not_before)))
 
 -- to the end of a row
 pub written_row : (f : Flow) (x : Node) (b : ℕ) (lines : List FlowLine) → IsWritten f (place x) b lines → ((d : ℕ) → b ≤ d → f x d ≡ 0) → IsWritten f (place x + 1) 0 lines
 written_row f x b lines is none = written_past f (place x) b (place x + 1) 0 lines is (inl (omega arith))
     (λ y d before not_before.
-      let here : x ≡ y = same_place x y (sym (next_at (place y) d (place x) b before not_before)) in
-      subst (λ z. f z d ≡ 0) here (none d (next_from (place y) d (place x) b before not_before)))
+    let here : x ≡ y = same_place x y (sym (next_at (place y) d (place x) b before not_before)) in
+    subst (λ z. f z d ≡ 0) here (none d (next_from (place y) d (place x) b before not_before)))
 
 before_added : (p d from to at b : ℕ) → from ≡ at → to ≡ b → early p d at b ≡ true → (nat_lt p from || ((p == from) && nat_lt d to)) ≡ true
 before_added p d from to at b at_is to_is before = grind (arith, nat_tests)
@@ -106,9 +105,9 @@ written_more f b lines l is to_is units_is some =
           let m : FlowLine = get_or lines k d in
           before_added (place m.from) m.to at l.to at b refl to_is (is.earlier k d within));
       earlier = All-push (λ (m : FlowLine). is_earlier m.from m.to at (b + 1) ≡ true) lines l
-      (All-weaker (λ (m : FlowLine). is_earlier m.from m.to at b ≡ true) (λ (m : FlowLine). is_earlier m.from m.to at (b + 1) ≡ true)
-      (λ m before. early_later (place m.from) m.to at b at (b + 1) (inr (refl, omega arith)) before) lines is.earlier)
-      (early_here at l.to b to_is);
+          (All-weaker (λ (m : FlowLine). is_earlier m.from m.to at b ≡ true) (λ (m : FlowLine). is_earlier m.from m.to at (b + 1) ≡ true)
+          (λ m before. early_later (place m.from) m.to at b at (b + 1) (inr (refl, omega arith)) before) lines is.earlier)
+          (early_here at l.to b to_is);
       units = λ x d. sum_by_push (λ (m : FlowLine). cond (same_node m.from x && (m.to == d)) m.units 0) lines l
           ∙ units_added (place x) d at l.to at b l.units (f x d) (flow_of lines x d) refl to_is
           (λ there then. units_is ∙ ap (λ y. f y b) (same_place l.from x (sym there)) ∙ ap (f x) (sym to_is ∙ sym then)) (is.units x d);
@@ -119,9 +118,9 @@ pub written_line : (f : Flow) (b : ℕ) (lines : List FlowLine) (l : FlowLine) �
 written_line f b lines l is to_is units_is = elim (cases_lt 0 l.units) [
   | inl some ↦ subst (IsWritten f (place l.from) (b + 1)) (sym (cond-true (nat_lt 0 l.units) (lines ++ l ∷ []) lines (lt-ltb 0 l.units some))) (written_more f b lines l is to_is units_is some)
   | inr none ↦ subst (IsWritten f (place l.from) (b + 1)) (sym (cond-false (nat_lt 0 l.units) (lines ++ l ∷ []) lines (le-ltb 0 l.units none)))
-  (written_to f l.from b (b + 1) lines is (omega arith) (λ d from to.
-    let here : b ≡ d = omega arith in
-    subst (λ e. f l.from e ≡ 0) here (omega (arith, units_is))))
+      (written_to f l.from b (b + 1) lines is (omega arith) (λ d from to.
+      let here : b ≡ d = omega arith in
+      subst (λ e. f l.from e ≡ 0) here (omega (arith, units_is))))
 ]
 
 -- The lines of all pairs before those of an account, and of its pairs with the takers of its first i certificates.
@@ -140,7 +139,7 @@ row_none r f a lines goes is = record {
 }
 
 nothing : (n : ℕ) → (0 < n → ⊥) → n ≡ 0
-nothing n never = elim (cases_lt 0 n) [ | inl some ↦ absurd (never some) | inr none ↦ omega arith ]
+nothing n never = elim (cases_lt 0 n) [ inl some ↦ absurd (never some) | inr none ↦ omega arith ]
 
 pub row_more : (r : Rows) (f : Flow) (a i : ℕ) (lines : List FlowLine) (l : FlowLine) → GivesEachOnce (certificates r) (degree r) (given r) → a < accounts r → i < degree r a →
     IsRowWritten r f a i lines → l.from ≡ Account a → l.to ≡ taker r a i → l.units ≡ f (Account a) (taker r a i) → IsRowWritten r f a (i + 1) (with_line lines l)
@@ -148,16 +147,16 @@ row_more r f a i lines l readers account within is from_is to_is units_is =
     let t : ℕ = taker r a i in
     let rises : (j : ℕ) → i < j → j < degree r a → t < taker r a j = λ j less inside. readers.rises a i j account less inside in
     let to_taker : IsWritten f (a + 1) t lines = written_to f (Account a) is.b t lines is.written (is.later i (omega arith) within) (λ d from to. nothing (f (Account a) d) (λ some.
-        let h = is.rest d from some in
-        elim (cases_lt i h.0) [
-          | inl more ↦ omega (arith, rises h.0 more h.2, h.3)
-          | inr same ↦ let here : i ≡ h.0 = omega (arith, h.1) in let same_taker : t ≡ taker r a h.0 = ap (taker r a) here in omega (arith, h.3, same_taker)
-        ])) in
+    let h = is.rest d from some in
+    elim (cases_lt i h.0) [
+      | inl more ↦ omega (arith, rises h.0 more h.2, h.3)
+      | inr same ↦ let here : i ≡ h.0 = omega (arith, h.1) in let same_taker : t ≡ taker r a h.0 = ap (taker r a) here in omega (arith, h.3, same_taker)
+    ])) in
     let place_is : place l.from ≡ a + 1 = ap place from_is in
     record {
       b = t + 1;
       written = subst (λ p. IsWritten f p (t + 1) (with_line lines l)) place_is
-      (written_line f t lines l (subst (λ p. IsWritten f p t lines) (sym place_is) to_taker) to_is (units_is ∙ ap (λ x. f x t) (sym from_is)));
+          (written_line f t lines l (subst (λ p. IsWritten f p t lines) (sym place_is) to_taker) to_is (units_is ∙ ap (λ x. f x t) (sym from_is)));
       later = λ j from to. omega (arith, rises j (omega arith) to);
       rest = λ c from some.
           let h = is.rest c (omega (arith, is.later i (omega arith) within)) some in

@@ -2,3 +2,6 @@
 #![tactic(auto)]
 
 mod reading;
+mod solving;
+
+pub use solving::{solve_alone, solve_one};

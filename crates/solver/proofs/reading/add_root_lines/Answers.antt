@@ -8,4 +8,4 @@ pub loop-number-preserved : goal.loop-number-preserved
 loop-number-preserved c =
     rw c.in_ok-add_line.ensures
     (written_line (flow_in c.args.workspace.now) c.loop-number.number c.loop-number.lines.items
-      (record { from = Root; to = c.loop-number.number; units = c.root_units.result }) c.loop-number.invariant refl c.root_units.ensures)
+    (record { from = Root; to = c.loop-number.number; units = c.root_units.result }) c.loop-number.invariant refl c.root_units.ensures)

@@ -1,5 +1,5 @@
-use Rattle.std.proofs.Common.{ℕ, ◌+◌, ◌≡◌, subst, sym}
-use Rattle.trust_types.specs.Flow.{Flow, IsServed}
+use Rattle.std.proofs.Common.{ℕ, ◌+◌, subst}
+use Rattle.trust_types.specs.Flow.{IsServed}
 use Rattle.frozen.specs.Revision.{certificates}
 use Rattle.flow_engine.specs.Solved.{flow_in, sides_in}
 use Rattle.solver.specs.Listing.{ListsBelow, AreSidesBelow}

@@ -1,8 +1,7 @@
-use Rattle.std.proofs.Common.{ℕ, ◌≡◌, ◌+◌, ◌==◌, arith, refl, sym, subst, ◌∙◌, ap, true, false, List}
+use Rattle.std.proofs.Common.{ℕ, ◌≡◌, ◌+◌, arith, refl, sym, subst, ◌∙◌}
 use Rattle.std.proofs.lemmas.Bool.{eqb-true, eqb-false}
 use Rattle.trust_types.specs.Flow.{Flow, IsServed, is_served, units_in, units_out}
 use Rattle.trust_types.specs.declared.accounts.Node.TheVariants.{Account}
-use Rattle.frozen.specs.Revision.{certificates}
 use Rattle.flow_engine.specs.Solved.{flow_in}
 use Rattle.solver.specs.Listing.{ListsBelow}
 use Rattle.solver.proofs.Listing.{lists_more, lists_past}
