@@ -8,3 +8,6 @@ mod publications;
 pub use candidates::Candidate;
 pub use level_rosters::LevelRoster;
 pub use publications::Publication;
+
+#[cfg(test)]
+mod tests;

@@ -5,3 +5,6 @@ mod reading;
 mod solving;
 
 pub use solving::{solve_alone, solve_one};
+
+#[cfg(test)]
+mod tests;
