@@ -6,3 +6,5 @@ mod SiteSteps
 mod ClaimSteps
 mod CapsLine
 mod ReadingBack
+mod Written
+mod GraphLists

@@ -1,3 +1,4 @@
 pub mod Site
 pub mod View
 pub mod Canonical
+pub mod Writing

@@ -1,2 +1,6 @@
 //! Texts of sites and of proofs: what they stand for, read and written.
 #![tactic(auto)]
+
+mod writing;
+
+pub use writing::proof_text;
