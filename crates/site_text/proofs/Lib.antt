@@ -8,3 +8,4 @@ mod CapsLine
 mod ReadingBack
 mod Written
 mod GraphLists
+mod Texted

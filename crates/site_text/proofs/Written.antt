@@ -48,7 +48,7 @@ below_more : (n : ℕ) → below (n + 1) ≡ below n ++ n ∷ []
 below_more n = rw add-one (range_more 0 n n (omega arith))
 
 -- One account more, which is a seed or none.
-more_seeds : (g : Certificates) (n : ℕ) → g.is_seed n ≡ true → seeds_below g (n + 1) ≡ seeds_below g n ++ n ∷ []
+pub more_seeds : (g : Certificates) (n : ℕ) → g.is_seed n ≡ true → seeds_below g (n + 1) ≡ seeds_below g n ++ n ∷ []
 more_seeds g n is = ap (filter g.is_seed) (below_more n) ∙ filter-append g.is_seed (below n) (n ∷ []) ∙ rw is refl
 
 pub same_seeds : (g : Certificates) (n : ℕ) → g.is_seed n ≡ false → seeds_below g (n + 1) ≡ seeds_below g n
