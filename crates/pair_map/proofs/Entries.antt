@@ -1,12 +1,12 @@
 -- What a map of pairs has at each pair, and its entries.
-use Rattle.std.proofs.Common.{◌≡◌, ℕ, ◌<◌, Bool, true, false, cond, List, [], ◌∷◌, Option, Some, None, refl, sym, ap, ◌∙◌, arith, nat_eq, ◌&&◌, ◌⊎◌, length, get_or, zero, suc, Contains}
+use Rattle.std.proofs.Common.{◌≡◌, ℕ, ◌<◌, Bool, true, false, cond, List, [], ◌∷◌, Option, Some, None, refl, sym, ap, subst, ◌∙◌, arith, nat_eq, ◌&&◌, ◌⊎◌, length, get_or, zero, suc, Contains}
 use Rattle.std.specs.Ordering.{nat_cmp, is_eq, ordering_then}
 use Rattle.std.specs.declared.cmp.Ordering.{Ordering}
 use Rattle.std.specs.declared.cmp.Ordering.TheVariants.{Less}
 use Rattle.std.specs.Map.{lookup, keys_of}
 use Rattle.std.specs.List.Sorted.{IsStrictlySortedBy}
 use Rattle.std.proofs.lemmas.Map.Keys.{Less-from_sorted}
-use Rattle.std.proofs.lemmas.Map.Entries.{length-keys_of, place_from_lookup}
+use Rattle.std.proofs.lemmas.Map.Entries.{length-keys_of, place_from_lookup, lookup_head, lookup_tail}
 use Rattle.std.proofs.lemmas.Option.{slice_get_within, get_or_from_slice_get}
 use Rattle.std.proofs.Math.ListN.{get_or-map}
 use Rattle.pair_map.specs.Pairs.{Pairs, value_at, IsSet, Rises}
@@ -46,20 +46,26 @@ rises {V} es sorted = λ i j d less inside.
 same_pair : (a b x y : ℕ) → (nat_eq a x && nat_eq b y) ≡ true → (a ≡ x) × (b ≡ y)
 same_pair a b x y same = (grind arith, grind arith)
 
+entry_is : {V : Type 0} (p : ℕ × ℕ) (a b : ℕ) (value : V) (e : (ℕ × ℕ) × V) → a ≡ p.0 → b ≡ p.1 → e ≡ ((a, b), value) → (p, value) ≡ e
+entry_is {V} p a b value e first second is =
+    let from : ℕ → (ℕ × ℕ) × V = λ x. ((x, b), value) in
+    let to : ℕ → (ℕ × ℕ) × V = λ y. ((p.0, y), value) in
+    sym (is ∙ ap from first ∙ ap to second)
+
 -- The value that a pair has came with it in an entry.
 pub Contains-value_at : {V : Type 0} (es : Pairs V) (a b : ℕ) (value : V) → value_at es a b ≡ Some value → Contains es ((a, b), value)
 Contains-value_at {V} es a b value found =
     let place = place_from_lookup (λ (k : ℕ × ℕ). nat_eq a k.0 && nat_eq b k.1) es value found in
     let same = same_pair a b place.1.0 place.1.1 place.3 in
     let e : (ℕ × ℕ) × V = ((a, b), value) in
-    let entry : (place.1, value) ≡ e = cc in
+    let entry : (place.1, value) ≡ e = entry_is place.1 a b value e same.0 same.1 refl in
     (place.0, slice_get_within es place.0 (place.1, value) place.2, get_or_from_slice_get es place.0 (place.1, value) e place.2 ∙ entry)
-
-abbrev Before : {V : Type 0} → (ℕ × ℕ) × V → (ℕ × ℕ) × V → Type 0
-Before e f = (e.0.0 < f.0.0) ⊎ ((e.0.0 ≡ f.0.0) × (e.0.1 < f.0.1))
 
 tail_rises : {V : Type 0} (e : (ℕ × ℕ) × V) (es : Pairs V) → Rises (e ∷ es) → Rises es
 tail_rises e es rise = λ i j d less inside. rise (suc i) (suc j) d (omega arith) (omega arith)
+
+own_pair : (a b : ℕ) → (nat_eq a a && nat_eq b b) ≡ true
+own_pair a b = grind arith
 
 other_pair : (a b x y : ℕ) → (x < a) ⊎ ((x ≡ a) × (y < b)) → (nat_eq a x && nat_eq b y) ≡ false
 other_pair a b x y before = grind arith
@@ -67,5 +73,9 @@ other_pair a b x y before = grind arith
 -- An entry's value is what the map has at its pair.
 pub value_at-Contains : {V : Type 0} (es : Pairs V) (e : (ℕ × ℕ) × V) → Rises es → Contains es e → value_at es e.0.0 e.0.1 ≡ Some e.1
 value_at-Contains [] e rise (k, inside, is) = absurd (omega arith)
-value_at-Contains (f ∷ es) e rise (zero, inside, is) = ?
-value_at-Contains (f ∷ es) e rise (suc k, inside, is) = ?
+value_at-Contains {V} (f ∷ es) e rise (zero, inside, is) =
+    let Found : (ℕ × ℕ) × V → Type 0 = λ x. value_at (f ∷ es) x.0.0 x.0.1 ≡ Some x.1 in
+    subst Found is (lookup_head (λ (k : ℕ × ℕ). nat_eq f.0.0 k.0 && nat_eq f.0.1 k.1) f es (own_pair f.0.0 f.0.1))
+value_at-Contains {V} (f ∷ es) e rise (suc k, inside, is) =
+    let before : (f.0.0 < e.0.0) ⊎ ((f.0.0 ≡ e.0.0) × (f.0.1 < e.0.1)) = rw is at (rise 0 (suc k) e (omega arith) inside) in
+    lookup_tail (λ (k : ℕ × ℕ). nat_eq e.0.0 k.0 && nat_eq e.0.1 k.1) f es (other_pair e.0.0 e.0.1 f.0.0 f.0.1 before) ∙ value_at-Contains es e (tail_rises f es rise) (k, omega arith, is)
