@@ -5,3 +5,4 @@ mod Values
 mod Adding
 mod Judging
 mod Most
+mod Passing

@@ -10,3 +10,4 @@ pub mod Sums
 pub mod Sides
 pub mod Figures
 pub mod Places
+pub mod Laws

@@ -3,6 +3,7 @@
 
 mod checks;
 mod edges;
+mod laws;
 mod lines;
 mod proofs;
 mod scratch;
@@ -11,6 +12,7 @@ mod sums;
 mod verdicts;
 
 pub use checks::check;
+pub use laws::proven_is_passed;
 pub use lines::print_verdict;
 pub use proofs::Proof;
 pub use scratch::Scratch;

@@ -85,6 +85,14 @@ impl Frozen {
         self.names.name(account)
     }
 
+    /// The names of the accounts, by number.
+    pub fn names(&self) -> &NameIndex
+        ensures all { result.now ≡ self.now.names }
+        ensures named { length self.now.names ≡ (certificates self.now).accounts }
+    {
+        &self.names
+    }
+
     /// The account of that name; `None` where none has it.
     pub fn find(&self, name: &Name) -> Option<AccountNo>
         ensures { result ≡ number_of self.now.names name.now }

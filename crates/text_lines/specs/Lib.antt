@@ -3,3 +3,4 @@ pub mod Unread
 pub mod Numbers
 pub mod Faults
 pub mod Reading
+pub mod Steps

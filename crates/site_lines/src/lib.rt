@@ -1,0 +1,2 @@
+//! The lines of a site: what each means after those before.
+#![tactic(auto)]

@@ -1,0 +1,2 @@
+//! Texts of sites and of proofs: what they stand for, read and written.
+#![tactic(auto)]
