@@ -1,6 +1,5 @@
 -- One line more of a text, and its end.
-use Rattle.std.proofs.Common.{◌≡◌, ℕ, ◌+◌, List, [], ◌∷◌, Result, Ok, Err, Option, Some, None, refl, sym, ◌∙◌}
-use Rattle.std.specs.Prelude.{IfSome}
+use Rattle.std.proofs.Common.{◌≡◌, ℕ, ◌+◌, List, [], ◌∷◌, Result, Ok, Err, Option, refl, sym, ◌∙◌}
 use Rattle.text_lines.specs.declared.faults.TextKind.{TextKind}
 use Rattle.text_lines.specs.declared.faults.TextFault.{TextFault}
 use Rattle.text_lines.specs.declared.faults.LineFault.{LineFault}

@@ -1,4 +1,5 @@
 mod Cutting
 mod Digits
+pub mod Decimals
 mod Lining
 pub mod Following

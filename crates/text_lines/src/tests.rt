@@ -4,12 +4,16 @@ use std::test::Fail;
 #[test]
 fn reads_a_text_to_its_last_line(rt: HostRuntime) -> Result<(), Fail> {
     let mut text = Lines::of(b"a b\n\nlast");
-    let mut lengths = Vec::new(rt.alloc());
-    while let Some(line) = text.next_line() {
-        lengths.push(line.len())?;
-    }
-    assert!(rt; lengths.as_slice() == [3, 0, 4].as_slice());
-    assert_eq!(rt; text.number(), 3);
+    let lines = [text.next_line(), text.next_line(), text.next_line()];
+    assert!(rt;
+        lines
+            == [
+                Some(b"a b".as_slice()),
+                Some(b"".as_slice()),
+                Some(b"last".as_slice())
+            ]
+    );
+    assert!(rt; text.next_line().is_none() && text.number() == 3);
     let mut words = Words::of(b"a b");
     let both = [words.next_word(), words.next_word(), words.next_word()];
     assert!(rt; both == [Some(b"a".as_slice()), Some(b"b".as_slice()), None]);

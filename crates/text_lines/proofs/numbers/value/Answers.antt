@@ -1,5 +1,4 @@
 use Rattle.std.proofs.Common.{arith}
-use Rattle.std.specs.Char.{is_ascii_digit}
 use Rattle.text_lines.proofs.Digits.{Step, step}
 use Rattle.text_lines.proofs.numbers.value.Goals as goal
 

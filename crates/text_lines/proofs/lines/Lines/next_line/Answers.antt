@@ -1,5 +1,4 @@
-use Rattle.std.proofs.Common.{rules, ◌≡◌, ◌<◌, ◌-◌, ℕ, List, [], length, arith, sym, take, drop}
-use Rattle.std.proofs.lemmas.List.{length-take, length-drop}
+use Rattle.std.proofs.Common.{◌≡◌, ◌<◌, length, arith, sym}
 use Rattle.text_lines.proofs.Cutting.{lines-at, lines-last, lines-none, lines-nil}
 use Rattle.text_lines.proofs.lines.Lines.next_line.Goals as goal
 
