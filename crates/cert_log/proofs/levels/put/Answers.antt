@@ -1,4 +1,4 @@
-use Rattle.std.proofs.Common.{◌≡◌, sym, ◌∙◌, ◌+◌, refl, true, ◌⊎◌, inl, inr, ◌<◌, arith, length, is_some, List, ◌∷◌, ◌++◌, []}
+use Rattle.std.proofs.Common.{◌≡◌, sym, ◌∙◌, refl, true, ◌⊎◌, inl, inr, ◌<◌, arith, length, is_some, ◌∷◌, ◌++◌, []}
 use Rattle.trust_types.specs.declared.graphs.Cert.{Cert}
 use Rattle.pair_map.specs.Pairs.{value_at}
 use Rattle.cert_log.specs.Log.{AreLevels}
