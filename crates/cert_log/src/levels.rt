@@ -32,7 +32,7 @@ pub fn put(levels: &mut PairMap<Level>, cert: Cert) -> Result<bool, NoMemory>
         let _before = levels.remove(giver, taker);
         return Ok(true);
     }
-    if !levels.contains(giver, taker) && levels.len() >= MOST {
+    if levels.len() >= MOST && !levels.contains(giver, taker) {
         return Ok(false);
     }
     let _before = levels.insert(giver, taker, cert.level)?;
