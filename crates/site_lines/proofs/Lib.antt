@@ -1,0 +1,6 @@
+mod Saying
+mod Drafting
+mod Entering
+mod Marking
+mod Parting
+pub mod Graphs

@@ -1,5 +1,5 @@
 -- What the lines of a site stand for: its capacity table, and kept records without moments and secrets.
-use Rattle.std.specs.Prelude.{ℕ, not, List, [], ◌∷◌, ◌++◌, Option, Some, None, Result, Ok, Err, ◌==◌, nat_le, nat_lt, length, codes, if◌then◌else◌, is_some}
+use Rattle.std.specs.Prelude.{ℕ, not, List, [], ◌∷◌, ◌++◌, Result, Ok, Err, ◌==◌, nat_le, nat_lt, length, codes, if◌then◌else◌, is_some}
 use Rattle.std.specs.Str.{bytes_eq}
 use Rattle.trust_types.specs.declared.levels.Level.{Level}
 use Rattle.trust_types.specs.declared.records.Record.{Record}

@@ -1,2 +1,16 @@
-//! The lines of a site: what each means after those before.
+//! The lines of a site: what each means after those before, and a site under construction.
 #![tactic(auto)]
+
+mod drafts;
+mod entries;
+mod forms;
+mod parts;
+mod seeds;
+mod tables;
+
+pub use drafts::SiteDraft;
+pub use parts::SiteParts;
+pub use tables::read_table;
+
+#[cfg(test)]
+mod tests;
