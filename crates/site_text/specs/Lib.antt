@@ -1,3 +1,5 @@
 pub mod Site
 pub mod View
 pub mod Canonical
+pub mod Faults
+pub mod Parts

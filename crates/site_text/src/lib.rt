@@ -1,2 +1,8 @@
 //! Texts of sites and of proofs: what they stand for, read and written.
 #![tactic(auto)]
+
+mod faults;
+mod reading;
+
+pub use faults::SiteFault;
+pub use text_lines::{TextFault, TextKind};
