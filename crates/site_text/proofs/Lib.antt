@@ -1,2 +1,10 @@
 mod Parting
 mod Composing
+mod Spelling
+mod Wording
+mod Recorded
+mod Placed
+mod SiteSteps
+mod ClaimSteps
+mod CapsLine
+mod ReadingBack
