@@ -8,7 +8,7 @@ use Rattle.trust_types.specs.declared.levels.Level.{Level}
 use Rattle.trust_types.specs.declared.records.Record.{Record}
 use Rattle.trust_types.specs.Kept.{accounts}
 use Rattle.text_lines.specs.declared.faults.TextKind.{TextKind}
-use Rattle.text_lines.specs.declared.faults.TextKind.TheVariants.{BadLine, MissingRoot}
+use Rattle.text_lines.specs.declared.faults.TextKind.TheVariants.{BadLine, MissingLevel, MissingRoot}
 use Rattle.text_lines.specs.declared.faults.TextFault.{TextFault}
 use Rattle.text_lines.specs.Words.{words, is_line}
 use Rattle.text_lines.specs.Reading.{reading}
@@ -90,12 +90,26 @@ proof-refused ls others first t f e caps read = rw (proof-site ls others first t
 pub proof-claimed : (ls others : List (List ℕ)) (first t : List ℕ) (k : List Record) → ls ≡ first ∷ others → caps_line first ≡ Ok t →
     reading site_line 2 [] (site_part others) ≡ Ok k →
     proof_of ls ≡ (claim_of (accounts k) (length (site_part others) + 2) (claim_part others)
-      >>= λ claimed. Ok (record { site = record { table = t; records = k }; level = claimed.0; claim = claimed.1 }))
+    >>= λ claimed. Ok (record { site = record { table = t; records = k }; level = claimed.0; claim = claimed.1 }))
 unfolding proof_of
 proof-claimed ls others first t k e caps read =
     let long : length (site_part ls) + 1 ≡ length (site_part others) + 2 =
-        omega (arith, length-first (site_part ls) first (site_part others) (parts ls others first t e caps).0) in
+    omega (arith, length-first (site_part ls) first (site_part others) (parts ls others first t e caps).0) in
     rw (proof-site ls others first t (Ok k) e caps read, long, (parts ls others first t e caps).1) refl
+
+-- The same by what was read of the claim.
+pub proof-with : (ls others : List (List ℕ)) (first t : List ℕ) (k : List Record) (names : List (List ℕ)) (n : ℕ) (part : List (List ℕ)) (r : Result (Level × Claim) TextFault) →
+    ls ≡ first ∷ others → caps_line first ≡ Ok t → reading site_line 2 [] (site_part others) ≡ Ok k →
+    names ≡ accounts k → n ≡ length (site_part others) + 2 → claim_part others ≡ part → claim_of names n part ≡ r →
+    proof_of ls ≡ (r >>= λ claimed. Ok (record { site = record { table = t; records = k }; level = claimed.0; claim = claimed.1 }))
+proof-with ls others first t k names n part r e caps read named numbered left said =
+    proof-claimed ls others first t k e caps read
+    ∙ ap (λ r. r >>= λ claimed. Ok (record { site = record { table = t; records = k }; level = claimed.0; claim = claimed.1 }))
+    ((λ i. claim_of (sym named i) (sym numbered i) (left i)) ∙ said)
+
+pub claim-missing : (names : List (List ℕ)) (n : ℕ) → claim_of names n [] ≡ Err (fault n MissingLevel)
+unfolding claim_of
+claim-missing names n = refl
 
 proof-untabled_by : (first : List ℕ) (others : List (List ℕ)) (b : Bool) (f : TextFault) → is_level_line first ≡ b → table_of (first ∷ others) ≡ Err f →
     site_of (site_part (first ∷ others)) ≡ Err f

@@ -8,3 +8,4 @@ mod SiteSteps
 mod ClaimSteps
 mod CapsLine
 mod ReadingBack
+mod Reaching

@@ -85,7 +85,11 @@ fn read_site_part<'a>(alloc: Global, text: &mut Lines<'a>) -> Result<SitePart<'a
 }
 
 /// Reads the lines of a claim behind its first.
-fn read_claim_lines(alloc: Global, text: &mut Lines, names: &NameIndex) -> Result<ClaimDraft, SiteFault>
+fn read_claim_lines(
+    alloc: Global,
+    text: &mut Lines,
+    names: &NameIndex,
+) -> Result<ClaimDraft, SiteFault>
     requires few { length names.now ≤ 100000 }
     ensures read { ReadsAll (IsClaimDraft (length names.now)) fault_of result (reading (claim_line names.now) (text.old.number + 1) nothing (lines text.old.bytes)) }
     ensures number { OnOk result (text.new.number ≡ text.old.number + length (lines text.old.bytes)) }
@@ -101,7 +105,12 @@ fn read_claim_lines(alloc: Global, text: &mut Lines, names: &NameIndex) -> Resul
 }
 
 /// Reads what is claimed of a site: the `level` line, which was the last one read, and those behind it.
-fn read_claim(alloc: Global, text: &mut Lines, level_line: &[u8], names: &NameIndex) -> Result<Claimed, SiteFault>
+fn read_claim(
+    alloc: Global,
+    text: &mut Lines,
+    level_line: &[u8],
+    names: &NameIndex,
+) -> Result<Claimed, SiteFault>
     requires few { length names.now ≤ 100000 }
     ensures read { ReadsAll (IsClaimed (length names.now)) fault_of result (claim_of names.now text.old.number (level_line.now ∷ lines text.old.bytes)) }
     ensures grade { IfOk result (λ claimed. IsGrade claimed.level) }
@@ -127,7 +136,13 @@ fn read_claim(alloc: Global, text: &mut Lines, level_line: &[u8], names: &NameIn
 }
 
 /// The proof of these parts: a site's, and those of what is claimed of it.
-fn proof_of(alloc: Global, caps: Caps, site: SiteParts, level: Level, claim: ClaimParts) -> Result<Proof, NoMemory>
+fn proof_of(
+    alloc: Global,
+    caps: Caps,
+    site: SiteParts,
+    level: Level,
+    claim: ClaimParts,
+) -> Result<Proof, NoMemory>
     requires grade { IsGrade level }
     requires parts { (k : List Record) × (c : Claim) × ArePartsOf k site × AreClaimed c claim × ArePartsAmong (length (accounts k)) claim × IsTrue (has_root c) }
     ensures { (k : List Record) (c : Claim) → ArePartsOf k site → AreClaimed c claim →
@@ -158,7 +173,7 @@ pub fn read_site(alloc: Global, bytes: &[u8]) -> Result<Arc<Frozen>, SiteFault>
     let mut text = Lines::of(bytes);
     let caps = read_first(&mut text)?;
     let part = read_site_part(alloc, &mut text)?;
-    if part.level_line.is_some() {
+    if let Some(_) = part.level_line {
         return Err(SiteFault::Text(TextFault {
             line: text.number(),
             kind: TextKind::BadLine,
@@ -166,7 +181,14 @@ pub fn read_site(alloc: Global, bytes: &[u8]) -> Result<Arc<Frozen>, SiteFault>
     }
     let revision = text.number() - 1;
     let site = part.draft.finish(alloc)?;
-    Ok(Frozen::of(alloc, revision as u32, caps, site.names, site.seeds, site.certs)?)
+    Ok(Frozen::of(
+        alloc,
+        revision as u32,
+        caps,
+        site.names,
+        site.seeds,
+        site.certs,
+    )?)
 }
 
 /// Reads a proof text: just that proof, with the lines of its flow in rising order. It goes once over the text, and takes

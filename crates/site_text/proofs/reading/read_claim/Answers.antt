@@ -23,7 +23,7 @@ returns-in_err-draft-clause-read c =
     let line : List ℕ = c.args.level_line.now in
     let others : List (List ℕ) = lines c.args.text.now.bytes in
     subst (λ r. ReadsAll (IsClaimed (length names)) fault_of r (claim_of names n (line ∷ others))) (sym (out.1 ∙ ap Err out.2))
-      (claim-kept names n line others c.in-Ok.level c.in_err-draft.field-0.0 (sym c.in-Ok.ensures.level) c.in_err-draft.ensures.read)
+    (claim-kept names n line others c.in-Ok.level c.in_err-draft.field-0.0 (sym c.in-Ok.ensures.level) c.in_err-draft.ensures.read)
 
 pub returns-then-not-has_root-clause-read : goal.returns-then-not-has_root-clause-read
 returns-then-not-has_root-clause-read c =
@@ -35,10 +35,11 @@ returns-then-not-has_root-clause-read c =
 pub returns-clause-read : goal.returns-clause-read
 returns-clause-read c =
     let read = c.in_ok-draft.ensures.read in
-    let has : has_root read.0 ≡ true = sym (c.has_root.ensures _ read.0 read.2) ∙ c.if-not-has_root.false in
-    ((c.in-Ok.level, read.0),
-     claim-whole c.args.names.now c.args.text.now.number c.args.level_line.now (lines c.args.text.now.bytes) c.in-Ok.level read.0 (sym c.in-Ok.ensures.level) read.1 has,
-     record { level = refl; claim = read.2 })
+    let has : has_root read.0 ≡ true = sym (c.has_root.ensures _ read.0 read.2) ∙ c.if-not-has_root.false in (
+      (c.in-Ok.level, read.0),
+      claim-whole c.args.names.now c.args.text.now.number c.args.level_line.now (lines c.args.text.now.bytes) c.in-Ok.level read.0 (sym c.in-Ok.ensures.level) read.1 has,
+      record { level = refl; claim = read.2 },
+    )
 
 pub returns-clause-root : goal.returns-clause-root
 returns-clause-root c = λ claim is. sym (c.has_root.ensures _ claim is) ∙ c.if-not-has_root.false

@@ -17,10 +17,13 @@ loop-line-preserved c =
     let others : List (List ℕ) = lines c.next_line.new.self.bytes in
     let long : length (lines c.loop-line.text.bytes) ≡ length others + 1 = length-first _ c.in-Some.line.now others c.in-Some.ensures.line in
     record {
-      so_far = (said.0, said.2,
-          ap (λ m. reading step (m + 1) said.0 others) c.in-Some.ensures.number
-          ∙ sym (reading-more step n inv.0 c.in-Some.line.now others said.0 said.1)
-          ∙ ap (reading step n inv.0) (sym c.in-Some.ensures.line) ∙ inv.2);
+      so_far = (
+        said.0,
+        said.2,
+        ap (λ m. reading step (m + 1) said.0 others) c.in-Some.ensures.number
+            ∙ sym (reading-more step n inv.0 c.in-Some.line.now others said.0 said.1)
+            ∙ ap (reading step n inv.0) (sym c.in-Some.ensures.line) ∙ inv.2,
+      );
       number = omega (arith, c.in-Some.ensures.number, long, c.loop-line.invariant.number);
     }
 
@@ -30,8 +33,8 @@ returns-in-Err-clause-read c =
     let n : ℕ = c.loop-line.text.number + 1 in
     let step = claim_line c.args.names.now in
     reading-refused step (IsClaimDraft (length c.args.names.now)) fault_of n inv.0 c.in-Some.line.now (lines c.next_line.new.self.bytes) _ c.read.new.self c.in-Err.fault c.at_line.result
-      (ap (reading step n inv.0) (sym c.in-Some.ensures.line) ∙ inv.2) (c.in-Err.ensures inv.0 inv.1)
-      (c.at_line.ensures ∙ ap (λ m. fault_at m c.in-Err.fault) (c.number.ensures.value ∙ c.in-Some.ensures.number))
+    (ap (reading step n inv.0) (sym c.in-Some.ensures.line) ∙ inv.2) (c.in-Err.ensures inv.0 inv.1)
+    (c.at_line.ensures ∙ ap (λ m. fault_at m c.in-Err.fault) (c.number.ensures.value ∙ c.in-Some.ensures.number))
 
 pub returns-clause-read : goal.returns-clause-read
 returns-clause-read c =

@@ -32,10 +32,13 @@ loop-line-preserved c =
     let said = c.in-Ok.ensures k inv.1 in
     let long : length (site_part (lines c.loop-line.text.bytes)) ≡ length (site_part others) + 1 = length-first _ line (site_part others) part in
     record {
-      so_far = (said.0, said.2,
-          ap (λ m. reading site_line (m + 1) said.0 (site_part others)) c.in-Some.ensures.number
-          ∙ sym (reading-more site_line n k line (site_part others) said.0 said.1)
-          ∙ ap (reading site_line n k) (sym part) ∙ inv.2);
+      so_far = (
+        said.0,
+        said.2,
+        ap (λ m. reading site_line (m + 1) said.0 (site_part others)) c.in-Some.ensures.number
+            ∙ sym (reading-more site_line n k line (site_part others) said.0 said.1)
+            ∙ ap (reading site_line n k) (sym part) ∙ inv.2,
+      );
       left = sym (claim_part-more line others other) ∙ ap claim_part (sym c.in-Some.ensures.line) ∙ c.loop-line.invariant.left;
       number = omega (arith, c.in-Some.ensures.number, long, c.loop-line.invariant.number);
     }
@@ -50,8 +53,8 @@ returns-in-Err-clause-read c =
     let other : is_level_line line ≡ false = sym c.if-is_level_line.ensures in
     let part : site_part (lines c.loop-line.text.bytes) ≡ line ∷ site_part others = ap site_part c.in-Some.ensures.line ∙ site_part-more line others other in
     reading-refused site_line IsSiteDraft fault_of n k line (site_part others) _ c.read.new.self c.in-Err.fault c.at_line.result
-      (ap (reading site_line n k) (sym part) ∙ inv.2) (c.in-Err.ensures k inv.1)
-      (c.at_line.ensures ∙ ap (λ m. fault_at m c.in-Err.fault) (c.number.ensures.value ∙ c.in-Some.ensures.number))
+    (ap (reading site_line n k) (sym part) ∙ inv.2) (c.in-Err.ensures k inv.1)
+    (c.at_line.ensures ∙ ap (λ m. fault_at m c.in-Err.fault) (c.number.ensures.value ∙ c.in-Some.ensures.number))
 
 pub returns-clause-read : goal.returns-clause-read
 returns-clause-read c =
