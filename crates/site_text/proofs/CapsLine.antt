@@ -30,9 +30,9 @@ table-IsTable entries is =
     let some : (length entries == 0) ≡ false = grind (arith, nat_tests, is.some) in
     let few : nat_lt 16 (length entries) ≡ false = grind (arith, nat_tests, is.few) in
     let zeros : list_any (λ entry. entry == 0) entries ≡ false = list_any_none (λ entry. entry == 0) entries (λ k d inside.
-        let same : get_or entries k d ≡ get_or entries k 0 = get_or_default_zero entries k d inside in
-        let least : 1 ≤ get_or entries k 0 = is.least k inside in
-        grind (arith, nat_tests)) in
+    let same : get_or entries k d ≡ get_or entries k 0 = get_or_default_zero entries k d inside in
+    let least : 1 ≤ get_or entries k 0 = is.least k inside in
+    grind (arith, nat_tests)) in
     let end : (get_or entries (length entries - 1) 0 == 1) ≡ true = grind (arith, nat_tests, is.end) in
     rw (some, few, zeros, list_any-IsTable entries is, rises-IsTable entries is, end) refl
 

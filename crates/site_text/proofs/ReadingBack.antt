@@ -73,21 +73,21 @@ site-worded table names seeds certs is are within stand =
     let of_certs : AreWorded (map (cert_words names) certs) = all-worded (cert_words names) certs (λ k d inside. cert-worded names are (get_or certs k d) (stand.among k d inside)) in
     list_all-append all_words ((caps_words table ∷ map account_words names) ++ map (seed_words names) seeds) (map (cert_words names) certs)
     ∙ and_true _ _
-        (list_all-append all_words (caps_words table ∷ map account_words names) (map (seed_words names) seeds)
-            ∙ and_true _ _ (and_true (all_words (caps_words table)) (list_all all_words (map account_words names)) (caps-worded table is) of_accounts) of_seeds)
-        of_certs
+    (list_all-append all_words (caps_words table ∷ map account_words names) (map (seed_words names) seeds)
+    ∙ and_true _ _ (and_true (all_words (caps_words table)) (list_all all_words (map account_words names)) (caps-worded table is) of_accounts) of_seeds)
+    of_certs
 
 claim-worded : (names : List (List ℕ)) (level : Level) (r : Lists) → AreNames names → AreWritable (length names) r → AreWorded (claim_words names level r)
 claim-worded names level r are can =
     let of_flow : AreWorded (map (flow_words names) r.flow) = all-worded (flow_words names) r.flow (λ k d inside.
-        flow-worded names are (get_or r.flow k d) (can.among.givers k d inside) (can.among.takers k d inside) (can.small k d inside)) in
+    flow-worded names are (get_or r.flow k d) (can.among.givers k d inside) (can.among.takers k d inside) (can.small k d inside)) in
     let of_pass : AreWorded (map (pass_words names) r.pass) = all-worded (pass_words names) r.pass (λ k d inside. pass-worded names are (get_or r.pass k d) (can.among.pass k d inside)) in
     let of_full : AreWorded (map (full_words names) r.full) = all-worded (full_words names) r.full (λ k d inside. full-worded names are (get_or r.full k d) (can.among.full k d inside)) in
     list_all-append all_words ((level_words level ∷ map (flow_words names) r.flow) ++ map (pass_words names) r.pass) (map (full_words names) r.full)
     ∙ and_true _ _
-        (list_all-append all_words (level_words level ∷ map (flow_words names) r.flow) (map (pass_words names) r.pass)
-            ∙ and_true _ _ (and_true (all_words (level_words level)) (list_all all_words (map (flow_words names) r.flow)) (level-worded level) of_flow) of_pass)
-        of_full
+    (list_all-append all_words (level_words level ∷ map (flow_words names) r.flow) (map (pass_words names) r.pass)
+    ∙ and_true _ _ (and_true (all_words (level_words level)) (list_all all_words (map (flow_words names) r.flow)) (level-worded level) of_flow) of_pass)
+    of_full
 
 -- The level's line is the first one that is a level's.
 abbrev is_other : List (List ℕ) → Bool
@@ -106,11 +106,11 @@ site-other : (table : List ℕ) (names : List (List ℕ)) (seeds : List ℕ) (ce
 site-other table names seeds certs =
     list_all-append is_other ((caps_words table ∷ map account_words names) ++ map (seed_words names) seeds) (map (cert_words names) certs)
     ∙ and_true _ _
-        (list_all-append is_other (caps_words table ∷ map account_words names) (map (seed_words names) seeds)
-            ∙ and_true _ _
-                (and_true (is_other (caps_words table)) (list_all is_other (map account_words names)) (caps-other table) (all_other account_words (λ name. refl) names))
-                (all_other (seed_words names) (λ a. refl) seeds))
-        (all_other (cert_words names) (λ c. refl) certs)
+    (list_all-append is_other (caps_words table ∷ map account_words names) (map (seed_words names) seeds)
+    ∙ and_true _ _
+    (and_true (is_other (caps_words table)) (list_all is_other (map account_words names)) (caps-other table) (all_other account_words (λ name. refl) names))
+    (all_other (seed_words names) (λ a. refl) seeds))
+    (all_other (cert_words names) (λ c. refl) certs)
 
 other_line : (ws : List (List ℕ)) → IsWorded ws → is_other ws ≡ true → is_level_line (spaced ws) ≡ false
 other_line ws each other =
@@ -179,9 +179,9 @@ unfolding proof_of
 proof_of-parts wss first others site level claim worded other is read claims =
     let at : position_or_len is_level_line (map spaced wss ++ first ∷ others) ≡ length (map spaced wss) = position-level wss first others worded other is in
     let site_is : site_part (map spaced wss ++ first ∷ others) ≡ map spaced wss =
-        ap (λ k. take k (map spaced wss ++ first ∷ others)) at ∙ take-append_seam (map spaced wss) (first ∷ others) in
+    ap (λ k. take k (map spaced wss ++ first ∷ others)) at ∙ take-append_seam (map spaced wss) (first ∷ others) in
     let claim_is : claim_part (map spaced wss ++ first ∷ others) ≡ first ∷ others =
-        ap (λ k. drop k (map spaced wss ++ first ∷ others)) at ∙ drop-append_seam (map spaced wss) (first ∷ others) in
+    ap (λ k. drop k (map spaced wss ++ first ∷ others)) at ∙ drop-append_seam (map spaced wss) (first ∷ others) in
     rw (site_is, claim_is, read, claims (length (map spaced wss) + 1)) refl
 
 -- The proof that a canonical text is read as.
@@ -197,17 +197,17 @@ proof-canonical v level r text is c =
     let within : All (λ a. a < length v.names) c.seeds = seeds-within v level r text is c in
     let worded : AreWorded (site_words v.table v.names c.seeds c.certs) = site-worded v.table v.names c.seeds c.certs is.table is.names within c.stand in
     let all : AreWorded (site_words v.table v.names c.seeds c.certs ++ claim_words v.names level r) =
-        list_all-append all_words (site_words v.table v.names c.seeds c.certs) (claim_words v.names level r) ∙ and_true _ _ worded (claim-worded v.names level r is.names is.lists) in
+    list_all-append all_words (site_words v.table v.names c.seeds c.certs) (claim_words v.names level r) ∙ and_true _ _ worded (claim-worded v.names level r is.names is.lists) in
     let lines_are : lines text ≡ map spaced (site_words v.table v.names c.seeds c.certs) ++ spaced (level_words level) ∷ claim_lines v.names r =
-        ap lines c.written ∙ lines-words (site_words v.table v.names c.seeds c.certs ++ claim_words v.names level r) all
-        ∙ map-append spaced (site_words v.table v.names c.seeds c.certs) (claim_words v.names level r)
-        ∙ ap (λ ls. map spaced (site_words v.table v.names c.seeds c.certs) ++ ls) (claim-lines v.names level r) in
+    ap lines c.written ∙ lines-words (site_words v.table v.names c.seeds c.certs ++ claim_words v.names level r) all
+    ∙ map-append spaced (site_words v.table v.names c.seeds c.certs) (claim_words v.names level r)
+    ∙ ap (λ ls. map spaced (site_words v.table v.names c.seeds c.certs) ++ ls) (claim-lines v.names level r) in
     let site_is : site_of (map spaced (site_words v.table v.names c.seeds c.certs)) ≡ Ok (record { table = v.table; records = records v.names c.seeds c.certs }) =
-        ap site_of (site-lines v.table v.names c.seeds c.certs) ∙ site_of-lines v.table v.names c.seeds c.certs is.table is.names within c.rises c.stand in
+    ap site_of (site-lines v.table v.names c.seeds c.certs) ∙ site_of-lines v.table v.names c.seeds c.certs is.table is.names within c.rises c.stand in
     ap proof_of lines_are
     ∙ proof_of-parts (site_words v.table v.names c.seeds c.certs) (spaced (level_words level)) (claim_lines v.names r) (record { table = v.table; records = records v.names c.seeds c.certs })
-        level (claimed r.flow r.pass r.full) worded (site-other v.table v.names c.seeds c.certs) (is_level_line-words level) site_is
-        (λ n. claim_of-lines v.names (accounts (records v.names c.seeds c.certs)) level r n (accounts-records v.names c.seeds c.certs) is.grade is.names is.lists is.root)
+    level (claimed r.flow r.pass r.full) worded (site-other v.table v.names c.seeds c.certs) (is_level_line-words level) site_is
+    (λ n. claim_of-lines v.names (accounts (records v.names c.seeds c.certs)) level r n (accounts-records v.names c.seeds c.certs) is.grade is.names is.lists is.root)
 
 -- The law of reading back.
 pub read_back : (v : View) (level : Level) (r : Lists) (text : List ℕ) → IsWritten v level r → IsCanonical v level r text → IsReadAs v level r text

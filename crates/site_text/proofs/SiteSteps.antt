@@ -69,7 +69,7 @@ account-step names before name rest are e =
     let named : IsName name = of_all IsName before name names at are.named in
     let known : accounts (records before [] []) ≡ before = accounts-records before [] [] in
     let new : number_of (accounts (records before [] [])) name ≡ None =
-        ap (λ ns. number_of ns name) known ∙ not_found before name (of_pairs (λ a b. a ≢ b) before name names at are.apart) in
+    ap (λ ns. number_of ns name) known ∙ not_found before name (of_pairs (λ a b. a ≢ b) before name names at are.apart) in
     let few : length (accounts (records before [] [])) < 100000 = rw known (omega (arith, are.few, at.within)) in
     site_line-join (records before [] []) (account_words name) (join name) (omega arith) (account-worded name named) (account-form (records before [] []) name named new few)
     ∙ ap Ok (records-account before name)
@@ -90,9 +90,9 @@ seed-step names seeds before a rest are within rises e =
     let below : a < length names = of_all (λ b. b < length names) before a seeds at within in
     let named : IsName (name_of names a) = name_at names are a below in
     let found : number_of (accounts (records names before [])) (name_of names a) ≡ Some a =
-        ap (λ ns. number_of ns (name_of names a)) (accounts-records names before []) ∙ number_of-name names are a below in
+    ap (λ ns. number_of ns (name_of names a)) (accounts-records names before []) ∙ number_of-name names are a below in
     let new : is_seed (records names before []) a ≡ false =
-        is_seed-records names before [] a ∙ apart_from before a (of_pairs (λ x y. x < y) before a seeds at (AllPairs-from_increasing seeds rises)) in
+    is_seed-records names before [] a ∙ apart_from before a (of_pairs (λ x y. x < y) before a seeds at (AllPairs-from_increasing seeds rises)) in
     site_line-join (records names before []) (seed_words names a) (seed a) (omega arith) (seed-worded names are a below) (seed-form (records names before []) (name_of names a) a named found new)
     ∙ ap Ok (records-seed names before a)
 
@@ -114,15 +114,15 @@ cert-step names seeds certs before c rest are stand e =
     let named_giver : IsName (name_of names c.from) = name_at names are c.from among.giver in
     let named_taker : IsName (name_of names c.to) = name_at names are c.to among.taker in
     let found_giver : number_of (accounts (records names seeds before)) (name_of names c.from) ≡ Some c.from =
-        ap (λ ns. number_of ns (name_of names c.from)) (accounts-records names seeds before) ∙ number_of-name names are c.from among.giver in
+    ap (λ ns. number_of ns (name_of names c.from)) (accounts-records names seeds before) ∙ number_of-name names are c.from among.giver in
     let found_taker : number_of (accounts (records names seeds before)) (name_of names c.to) ≡ Some c.to =
-        ap (λ ns. number_of ns (name_of names c.to)) (accounts-records names seeds before) ∙ number_of-name names are c.to among.taker in
+    ap (λ ns. number_of ns (name_of names c.to)) (accounts-records names seeds before) ∙ number_of-name names are c.to among.taker in
     let all : certs_of (records names seeds before ++ cert_record c ∷ []) ≡ before ++ c ∷ [] =
-        ap certs_of (records-cert names seeds before c) ∙ certs-records names seeds (before ++ c ∷ []) in
+    ap certs_of (records-cert names seeds before c) ∙ certs-records names seeds (before ++ c ∷ []) in
     let few : standing_count (certs_of (records names seeds before ++ cert_record c ∷ [])) ≤ 2000000 =
-        rw all (omega (arith, standing_count-le (before ++ c ∷ []), length_push before c, at.within, stand.few)) in
+    rw all (omega (arith, standing_count-le (before ++ c ∷ []), length_push before c, at.within, stand.few)) in
     site_line-join (records names seeds before) (cert_words names c) (cert_record c) (omega arith) (cert-worded names are c among)
-        (cert-form (records names seeds before) (name_of names c.from) (name_of names c.to) c.from c.to c.level named_giver named_taker found_giver found_taker among.others few)
+    (cert-form (records names seeds before) (name_of names c.from) (name_of names c.to) c.from c.to c.level named_giver named_taker found_giver found_taker among.others few)
     ∙ ap Ok (records-cert names seeds before c)
 
 -- The lines of a site, but for the first.
@@ -135,13 +135,13 @@ pub reading-site : (names : List (List ℕ)) (seeds : List ℕ) (certs : List Ce
     CanStand (length names) certs → reading site_line 2 [] (site_lines names seeds certs) ≡ Ok (records names seeds certs)
 reading-site names seeds certs are within rises stand =
     let accounts_are : reading site_line 2 [] (map (λ name. spaced (account_words name)) names) ≡ Ok (records names [] []) =
-        reading-each site_line 2 (λ name. spaced (account_words name)) (λ before. records before [] []) names (λ before name rest e. account-step names before name rest are e) in
+    reading-each site_line 2 (λ name. spaced (account_words name)) (λ before. records before [] []) names (λ before name rest e. account-step names before name rest are e) in
     let seeds_are : (n : ℕ) → reading site_line n (records names [] []) (map (λ a. spaced (seed_words names a)) seeds) ≡ Ok (records names seeds []) = λ n.
-        reading-each site_line n (λ a. spaced (seed_words names a)) (λ before. records names before []) seeds (λ before a rest e. seed-step names seeds before a rest are within rises e) in
+    reading-each site_line n (λ a. spaced (seed_words names a)) (λ before. records names before []) seeds (λ before a rest e. seed-step names seeds before a rest are within rises e) in
     let certs_are : (n : ℕ) → reading site_line n (records names seeds []) (map (λ c. spaced (cert_words names c)) certs) ≡ Ok (records names seeds certs) = λ n.
-        reading-each site_line n (λ c. spaced (cert_words names c)) (λ before. records names seeds before) certs (λ before c rest e. cert-step names seeds certs before c rest are stand e) in
+    reading-each site_line n (λ c. spaced (cert_words names c)) (λ before. records names seeds before) certs (λ before c rest e. cert-step names seeds certs before c rest are stand e) in
     let front : reading site_line 2 [] (map (λ name. spaced (account_words name)) names ++ map (λ a. spaced (seed_words names a)) seeds) ≡ Ok (records names seeds []) =
-        reading-append site_line 2 [] (records names [] []) (map (λ name. spaced (account_words name)) names) (map (λ a. spaced (seed_words names a)) seeds) accounts_are
-        ∙ seeds_are _ in
+    reading-append site_line 2 [] (records names [] []) (map (λ name. spaced (account_words name)) names) (map (λ a. spaced (seed_words names a)) seeds) accounts_are
+    ∙ seeds_are _ in
     reading-append site_line 2 [] (records names seeds []) (map (λ name. spaced (account_words name)) names ++ map (λ a. spaced (seed_words names a)) seeds) (map (λ c. spaced (cert_words names c)) certs) front
     ∙ certs_are _

@@ -76,8 +76,8 @@ pub number_of-name : (names : List (List ℕ)) → AreNames names → (a : ℕ) 
 number_of-name names are a below =
     let at : position_or_len (λ other. bytes_eq other (name_of names a)) names ≡ a =
     position_or_len_is (λ other. bytes_eq other (name_of names a)) names a [] (omega arith)
-        (λ k before. unequal (get_or names k []) (get_or names a []) (bytes_eq (get_or names k []) (get_or names a [])) refl (are.apart k a [] before below))
-        (λ _. (bytes_eq-Decides (name_of names a) (name_of names a)).1 refl) in
+    (λ k before. unequal (get_or names k []) (get_or names a []) (bytes_eq (get_or names k []) (get_or names a [])) refl (are.apart k a [] before below))
+    (λ _. (bytes_eq-Decides (name_of names a) (name_of names a)).1 refl) in
     found_by _ (length names) a at below
 
 -- Nodes among the accounts.

@@ -77,4 +77,4 @@ pub all-worded : {X : Type 0} (words_of : X → List (List ℕ)) (xs : List X) �
 all-worded words_of [] each = refl
 all-worded words_of (x ∷ xs) each =
     and_true (all_words (words_of x)) (list_all all_words (map words_of xs)) (All-head (λ x. IsWorded (words_of x)) x xs each)
-        (all-worded words_of xs (All-tail (λ x. IsWorded (words_of x)) x xs each))
+    (all-worded words_of xs (All-tail (λ x. IsWorded (words_of x)) x xs each))
