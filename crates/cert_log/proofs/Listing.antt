@@ -1,21 +1,15 @@
 -- The certificates of a list that stand before the later ones.
-use Rattle.std.proofs.Common.{◌≡◌, ◌≢◌, ℕ, zero, suc, ◌+◌, ◌<◌, ◌≤◌, Bool, true, false, cond, List, [], ◌∷◌, length, get_or, refl, sym, subst, ◌∙◌, ap, arith, nat_eq, not, ◌&&◌, ◌||◌, ◌⊎◌, inl, inr, All, AllPairs, Contains, IsTrue, ◌↔◌}
+use Rattle.std.proofs.Common.{◌≡◌, ℕ, zero, suc, ◌+◌, ◌≤◌, Bool, true, false, cond, List, [], ◌∷◌, length, refl, sym, subst, ◌∙◌, ap, arith, nat_eq, not, ◌&&◌, Contains, IsTrue, ◌↔◌}
 use Rattle.std.specs.List.{list_any}
-use Rattle.std.specs.Cmp.{IsStrictWeakOrder}
 use Rattle.std.proofs.lemmas.Bool.{false≢true}
-use Rattle.std.proofs.lemmas.List.Elements.{All-cons, All-tail, Contains-get_or, All-contains}
-use Rattle.std.proofs.lemmas.List.Kept.{AllPairs-cons}
 use Rattle.trust_types.specs.declared.levels.Level.{Level}
 use Rattle.trust_types.specs.declared.levels.Level.TheVariants.{Observer, Apprentice, Journeyer, Master}
 use Rattle.trust_types.specs.declared.graphs.Cert.{Cert}
 use Rattle.trust_types.specs.Levels.{is_grade, IsGrade}
 use Rattle.trust_types.specs.Kept.{is_of_pair, stands, standing_among}
-use Rattle.trust_types.specs.Certs.{IsBefore, CanStand, IsCertAmong}
-use Rattle.cert_log.specs.Standing.{standing_list, AreStanding, IsBetween, StandingCanStand}
-use Rattle.cert_log.specs.Order.{RisesByPair, pair_lt}
+use Rattle.cert_log.specs.Standing.{standing_list}
 use Rattle.cert_log.proofs.Leaving.{level_behind, none_behind, some_behind}
 use Rattle.cert_log.proofs.Counting.{same_pair}
-use Rattle.cert_log.proofs.Ordered.{tail_rises}
 
 pub graded : (level : Level) → is_grade level ≡ true → IsGrade level
 graded Observer is = absurd (false≢true is)
@@ -65,9 +59,10 @@ and_right false b e = absurd (false≢true e)
 
 stands_first : (d : Cert) (cs : List Cert) → stands d cs ≡ true → Stands (d ∷ cs) d
 stands_first d cs e =
-    let none : list_any (is_of_pair d.from d.to) cs ≡ false = and_right (is_grade d.level) _ e in
-    (graded d.level (and_left (is_grade d.level) _ e),
-     ap (λ own. level_behind d.from d.to (cond own d.level Observer) cs) (own_pair d.from d.to) ∙ none_behind d.from d.to d.level cs none)
+    let none : list_any (is_of_pair d.from d.to) cs ≡ false = and_right (is_grade d.level) _ e in (
+      graded d.level (and_left (is_grade d.level) _ e),
+      ap (λ own. level_behind d.from d.to (cond own d.level Observer) cs) (own_pair d.from d.to) ∙ none_behind d.from d.to d.level cs none,
+    )
 
 listed_by : (d c : Cert) (cs : List Cert) (s : Bool) → stands d cs ≡ s → (Contains (standing_list cs) c → Stands cs c)
     → Contains (cond s (d ∷ standing_list cs) (standing_list cs)) c → Stands (d ∷ cs) c

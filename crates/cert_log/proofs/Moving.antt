@@ -1,13 +1,12 @@
 -- The certificates that stand, moved to the front of a list in order of giver and taker.
-use Rattle.std.proofs.Common.{◌≡◌, ℕ, ◌+◌, ◌<◌, ◌≤◌, Bool, true, false, cond, List, [], ◌∷◌, ◌++◌, length, get_or, take, drop, refl, sym, ◌∙◌, ap, arith, not, ◌&&◌, inl, inr, append_assoc}
-use Rattle.std.specs.List.{swap, list_any}
+use Rattle.std.proofs.Common.{◌≡◌, ℕ, ◌+◌, ◌<◌, ◌≤◌, Bool, true, false, cond, List, [], ◌∷◌, ◌++◌, length, get_or, take, drop, refl, sym, ◌∙◌, ap, arith, not, inl, inr, append_assoc}
+use Rattle.std.specs.List.{swap}
 use Rattle.std.proofs.Math.ListN.{set}
 use Rattle.std.proofs.lemmas.Bool.{cases_lt}
 use Rattle.std.proofs.lemmas.List.{take-set, take-set-le, take_more_set, drop-set-lt, drop_more, get_or_default, length-set}
 use Rattle.trust_types.specs.declared.levels.Level.TheVariants.{Observer}
 use Rattle.trust_types.specs.declared.graphs.Cert.{Cert}
 use Rattle.trust_types.specs.Levels.{is_grade}
-use Rattle.trust_types.specs.Kept.{is_of_pair, stands}
 use Rattle.cert_log.specs.Standing.{standing_list, first_stands}
 use Rattle.cert_log.specs.Order.{RisesByPair, begins_with_pair}
 use Rattle.cert_log.proofs.Ordered.{next_any}
@@ -64,10 +63,11 @@ moved xs cs count place stays long inside le left front first so =
     let rest : List Cert = drop (place + 1) cs in
     let at : drop place cs ≡ c ∷ rest = drop_more cs place none inside in
     let listed : standing_list (drop place cs) ≡ c ∷ standing_list rest = ap standing_list at ∙ first_of c rest true (ap first_stands (sym at ∙ sym left) ∙ sym first ∙ so) in
-    let both = same_rest xs cs place long inside left in
-    (drop_swap xs count place le ∙ both.1,
-     ap (λ (kept : List Cert). kept ++ standing_list rest) (take_swap xs count place none le (omega arith)) ∙ append_assoc (take count xs) (get_or xs place none ∷ []) (standing_list rest)
-     ∙ ap (λ (x : Cert). take count xs ++ x ∷ standing_list rest) both.0 ∙ ap (λ (l : List Cert). take count xs ++ l) (sym listed) ∙ front)
+    let both = same_rest xs cs place long inside left in (
+      drop_swap xs count place le ∙ both.1,
+      ap (λ (kept : List Cert). kept ++ standing_list rest) (take_swap xs count place none le (omega arith)) ∙ append_assoc (take count xs) (get_or xs place none ∷ []) (standing_list rest)
+          ∙ ap (λ (x : Cert). take count xs ++ x ∷ standing_list rest) both.0 ∙ ap (λ (l : List Cert). take count xs ++ l) (sym listed) ∙ front,
+    )
 
 -- The same after one that doesn't.
 pub passed : (xs cs : List Cert) (count place : ℕ) (stays : Bool) → length xs ≡ length cs → place < length cs → drop place xs ≡ drop place cs

@@ -1,8 +1,7 @@
 -- Certificates in order of giver and taker.
-use Rattle.std.proofs.Common.{◌≡◌, ℕ, ◌<◌, Bool, true, false, cond, List, [], ◌∷◌, refl, sym, ◌∙◌, ap, arith, nat_eq, ◌&&◌, not, filter, ◌||◌, ◌+◌, ◌-◌, suc, add-one, ◌⊎◌, ◌≤◌, get_or, length, drop}
+use Rattle.std.proofs.Common.{◌≡◌, ℕ, ◌<◌, Bool, true, false, cond, List, [], ◌∷◌, refl, sym, ◌∙◌, ap, arith, filter, ◌||◌, ◌+◌, ◌-◌, suc, add-one, ◌⊎◌, ◌≤◌, get_or, length, drop}
 use Rattle.std.specs.List.{list_any}
 use Rattle.std.specs.List.Sorted.{ties}
-use Rattle.std.specs.Ordering.{nat_cmp, is_lt, ordering_then}
 use Rattle.std.proofs.lemmas.List.{get_or-drop, length-drop}
 use Rattle.trust_types.specs.declared.levels.Level.{Level}
 use Rattle.trust_types.specs.declared.levels.Level.TheVariants.{Observer}

@@ -1,5 +1,5 @@
 -- What a log gives at its end stands, and what stands can stand beside one another.
-use Rattle.std.proofs.Common.{◌≡◌, ◌≢◌, ℕ, ◌<◌, ◌≤◌, Bool, true, false, cond, List, [], ◌∷◌, length, get_or, refl, sym, ◌∙◌, ap, subst, arith, nat_eq, not, ◌&&◌, ◌||◌, ◌⊎◌, All, AllPairs, Contains, Some, map, Option, ◌↔◌}
+use Rattle.std.proofs.Common.{◌≡◌, ◌≢◌, ℕ, ◌<◌, ◌≤◌, Bool, true, false, cond, List, [], ◌∷◌, length, get_or, refl, sym, ◌∙◌, ap, subst, arith, ◌||◌, ◌⊎◌, All, AllPairs, Contains, Some, map}
 use Rattle.std.specs.List.{list_any}
 use Rattle.std.proofs.Math.ListN.{get_or-map}
 use Rattle.std.proofs.lemmas.Bool.{false≢true}
@@ -11,13 +11,12 @@ use Rattle.trust_types.specs.declared.levels.Level.TheVariants.{Observer, Appren
 use Rattle.trust_types.specs.declared.graphs.Cert.{Cert}
 use Rattle.trust_types.specs.Levels.{is_grade, IsGrade}
 use Rattle.trust_types.specs.Kept.{is_of_pair, stands, standing_among}
-use Rattle.trust_types.specs.Certs.{IsBefore, CanStand, IsCertAmong}
-use Rattle.pair_map.specs.Pairs.{Pairs, value_at, Rises}
+use Rattle.trust_types.specs.Certs.{IsBefore}
+use Rattle.pair_map.specs.Pairs.{Pairs, Rises}
 use Rattle.pair_map.proofs.Entries.{Contains-value_at, value_at-Contains}
 use Rattle.cert_log.specs.Standing.{standing_list, AreStanding, IsBetween, StandingCanStand}
 use Rattle.cert_log.specs.Order.{RisesByPair, pair_lt}
 use Rattle.cert_log.specs.Log.{AreLevels, grade_of, cert_at}
-use Rattle.cert_log.proofs.Leaving.{level_behind}
 use Rattle.cert_log.proofs.Counting.{same_pair}
 use Rattle.cert_log.proofs.Ordered.{tail_rises, later}
 use Rattle.cert_log.proofs.Listing.{listed_stands, stands_listed, length-standing_list, some_of_pair, and_right}
@@ -81,9 +80,10 @@ standing_sorted cs sorted kept long few rises same is =
     let of_sorted : AreStanding cs (standing_list sorted) = record {
       few = omega (arith, length-standing_list sorted);
       rises = standing_rises sorted rises;
-      just = λ c.
-          (λ found. let st = listed_stands sorted c found in (st.0, sym (same c.from c.to) ∙ st.1),
-           λ st. stands_listed sorted c (st.0, same c.from c.to ∙ st.1));
+      just = λ c. (
+        λ found. let st = listed_stands sorted c found in (st.0, sym (same c.from c.to) ∙ st.1),
+        λ st. stands_listed sorted c (st.0, same c.from c.to ∙ st.1),
+      );
     } in
     subst (AreStanding cs) (sym is) of_sorted
 
@@ -117,9 +117,10 @@ standing_mapped levels cs kept is rises are =
       few = omega (arith, length-map levels cert_at, are.count, are.few);
       rises = λ i j x less inside.
           rw (get_or-map cert_at levels i (entry x), get_or-map cert_at levels j (entry x)) (rises i j (entry x) less (omega (arith, length-map levels cert_at)));
-      just = λ c.
-          (λ found. graded_is _ c.level (sym (are.at c.from c.to) ∙ value_at-Contains levels (entry c) rises (unlisted levels c found)),
-           λ st. listed levels c (Contains-value_at levels c.from c.to c.level (are.at c.from c.to ∙ is_graded _ c.level st.0 st.1)));
+      just = λ c. (
+        λ found. graded_is _ c.level (sym (are.at c.from c.to) ∙ value_at-Contains levels (entry c) rises (unlisted levels c found)),
+        λ st. listed levels c (Contains-value_at levels c.from c.to c.level (are.at c.from c.to ∙ is_graded _ c.level st.0 st.1)),
+      );
     } in
     subst (AreStanding cs) (sym is) of_map
 

@@ -32,7 +32,7 @@ pub fn put(levels: &mut PairMap<Level>, cert: Cert) -> Result<bool, NoMemory>
         let _before = levels.remove(giver, taker);
         return Ok(true);
     }
-    if !levels.contains(giver, taker) && levels.len() >= MOST {
+    if levels.len() >= MOST && !levels.contains(giver, taker) {
         return Ok(false);
     }
     let _before = levels.insert(giver, taker, cert.level)?;
@@ -51,7 +51,10 @@ fn listed(alloc: Global, levels: PairMap<Level>) -> Result<Vec<Cert>, AllocError
     ensures all { IfOk result (λ certs. certs.items ≡ map cert_at levels) }
     ensures rises { Rises levels }
 {
-    levels.into_pairs().map(|((giver, taker), level)| cert_at(giver, taker, level)).collect(alloc)
+    levels
+        .into_pairs()
+        .map(|((giver, taker), level)| cert_at(giver, taker, level))
+        .collect(alloc)
 }
 
 fn cert_at(giver: u32, taker: u32, level: Level) -> Cert

@@ -22,7 +22,7 @@ pub struct CertLog {
 
 /// Up to 2,000,000 certificates are kept as they come, since no more can stand. One more is looked up.
 #[derive(Drop)]
-pub enum Kept {
+enum Kept {
     Lines(Vec<Cert>),
     Levels(PairMap<Level>),
 }

@@ -30,7 +30,10 @@ fn keeps_the_last_certificate_of_each_pair(rt: HostRuntime) -> Result<(), Fail> 
         for cert in &standing {
             write!(line, "{} {} {}, ", cert.from.0, cert.to.0, cert.level)?;
         }
-        assert_eq!(rt; line.as_str(), "0 2 Master, 1 0 Journeyer, 1 2 Apprentice, ");
+        assert_eq!(rt;
+            line.as_str(),
+            "0 2 Master, 1 0 Journeyer, 1 2 Apprentice, "
+        );
     }
     Ok(())
 }

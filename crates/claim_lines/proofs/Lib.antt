@@ -1,0 +1,4 @@
+mod Saying
+mod Flowing
+mod Drafting
+mod Parting

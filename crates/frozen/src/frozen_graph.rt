@@ -113,6 +113,7 @@ impl Frozen {
 impl CertGraph for Frozen {
     ghost use Rattle.trust_types.specs.Layout.{degree, given};
     ghost use Rattle.trust_types.specs.Rows.{GivesEachOnce};
+    ghost use Rattle.trust_types.specs.declared.levels.Level.TheVariants.{Observer};
     ghost use Rattle.frozen.specs.Revision.{certificates};
 
     ghost certificates = { certificates };
@@ -125,6 +126,7 @@ impl CertGraph for Frozen {
     fn accounts(&self) -> u32
         ensures value { result ≡ (certificates self.now).accounts }
         ensures readers { GivesEachOnce (certificates self.now) (degree self.now.rows) (given self.now.rows) }
+        ensures outside { (a b : ℕ) → result ≤ a → (certificates self.now).standing a b ≡ Observer }
         ensures few { result ≤ 100000 }
     {
         self.graph.accounts()

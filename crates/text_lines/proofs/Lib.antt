@@ -1,5 +1,6 @@
 mod Cutting
 mod Digits
 pub mod Decimals
+pub mod Joining
 mod Lining
 pub mod Following

@@ -1,18 +1,24 @@
--- A list of names after one more, and the map that has their numbers.
-use Rattle.std.proofs.Common.{◌≡◌, ◌≢◌, ℕ, ◌+◌, ◌<◌, ◌≤◌, Bool, true, false, cond, List, [], ◌∷◌, ◌++◌, length, Option, Some, None, refl, sym, subst, ◌∙◌, ap, arith, eqb, nat_lt, get_or, not}
+-- A list of names after one more, and the table and the map that have their numbers.
+use Rattle.std.proofs.Common.{◌≡◌, ◌≢◌, ℕ, ◌+◌, ◌<◌, ◌≤◌, Bool, true, false, cond, List, [], ◌∷◌, ◌++◌, ◌^◌, length, Option, Some, None, Err, All, inl, inr, refl, sym, ◌∙◌, ap, arith, eqb, nat_lt, get_or, not}
 use Rattle.std.specs.Prelude.{position}
-use Rattle.std.specs.List.{position_or_len, AllPairs}
+use Rattle.std.specs.List.{position_or_len, Contains, HoldsAt}
+use Rattle.std.specs.List.Sorted.{IsPermutation, IsSortedByKey, IsBinarySearchResult, IsPartitionPoint}
+use Rattle.std.specs.declared.cmp.Ordering.TheVariants.{Less, Equal, Greater}
 use Rattle.std.specs.Ordering.{nat_cmp, is_eq}
 use Rattle.std.specs.Str.{bytes_eq}
 use Rattle.std.specs.BTreeMap as tree
-use Rattle.std.proofs.lemmas.Bool.{false≢true}
-use Rattle.std.proofs.lemmas.List.{length_push}
+use Rattle.std.proofs.lemmas.Bool.{false≢true, cases_lt}
+use Rattle.std.proofs.lemmas.List.{length_push, get_or_default, get_or_append_left, get_or_push}
+use Rattle.std.proofs.lemmas.List.Elements.{All-push}
+use Rattle.std.proofs.lemmas.List.Sorted.{All-permutation, IsPermutation-sym, searchable_from_sorted}
+use Rattle.std.proofs.lemmas.Cmp.{ranked, nat_cmp_total}
 use Rattle.std.proofs.lemmas.List.Sums.{prefix_len-le-length, prefix_len_passes, position_or_len_is}
 use Rattle.std.proofs.lemmas.List.Folds.{position_or_len_push}
 use Rattle.std.proofs.lemmas.List.Quantifiers.{all_pairs_push}
 use Rattle.std.proofs.lemmas.Slice.Eq.{bytes_eq-Decides}
 use Rattle.trust_types.specs.Names.{IsName, name_key}
-use Rattle.trust_types.specs.NameLists.{number_of, AreApart, IsIndexed}
+use Rattle.trust_types.specs.NameLists.{number_of, AreApart, HasNumber, LacksKey, IsTableOf, IsIndexed}
+use Rattle.trust_types.specs.declared.name_index.Entry.{Entry}
 
 none_by : (n l m k : ℕ) (b : Bool) → cond (nat_lt n l) (Some n) None ≡ None → n ≤ l → m ≡ cond (eqb n l) (l + cond b 0 1) n → k ≡ l + 1 → cond (nat_lt m k) (Some m) None ≡ cond b (Some l) None
 none_by n l m k true h le m_is k_is = grind arith
@@ -59,18 +65,25 @@ differs names new none k d below same =
     let it : bytes_eq (get_or names k d) new ≡ true = (bytes_eq-Decides (get_or names k d) new).1 same in
     false≢true (sym (ap not it) ∙ not_it)
 
+-- Entries keep the numbers of their names where one more name comes.
+numbered_more : (names : List (List ℕ)) (name : List ℕ) (table : List Entry) → All (HasNumber names) table → All (HasNumber (names ++ name ∷ [])) table
+numbered_more names name table all k d inside q named same = position_push_some (λ n. bytes_eq n q) names name _ (all k d inside q named same)
+
 -- The names and the map stay tied where both take one more, under the next number.
-pub indexed_more : (names : List (List ℕ)) (old new : tree.BTreeMap ℕ ℕ) (name : List ℕ) (key number : ℕ) → IsIndexed names old → number_of names name ≡ None →
-    number ≡ length names →
+pub indexed_more : (names : List (List ℕ)) (table : List Entry) (old new : tree.BTreeMap ℕ ℕ) (name : List ℕ) (key number : ℕ) → IsIndexed names table old → number_of names name ≡ None →
+    length names < 2 ^ 32 → number ≡ length names →
     ((k : ℕ) → tree.get nat_cmp new k ≡ cond (is_eq (nat_cmp key k)) (Some number) (tree.get nat_cmp old k)) →
     ((other : List ℕ) → IsName other → (name_key other ≡ key → other ≡ name) × (other ≡ name → name_key other ≡ key)) →
-    IsIndexed (names ++ name ∷ []) new
-indexed_more names old new name key number is none next updates apart = record {
+    IsIndexed (names ++ name ∷ []) table new
+indexed_more names table old new name key number is none room next updates apart = record {
   apart = all_pairs_push (λ a b. a ≢ b) names name is.apart (differs names name none);
-  numbered = λ q named.
+  few = omega (arith, length_push names name);
+  sorted = is.sorted;
+  numbered = numbered_more names name table is.numbered;
+  others = λ q named lacks.
       let test : is_eq (nat_cmp key (name_key q)) ≡ bytes_eq name q = key_test key (name_key q) name q (apart q named).0 (apart q named).1 (bytes_eq name q) refl in
       updates (name_key q) ∙ ap (λ (b : Bool). cond b (Some number) (tree.get nat_cmp old (name_key q))) test
-      ∙ ap (λ (o : Option ℕ). cond (bytes_eq name q) (Some number) o) (is.numbered q named)
+      ∙ ap (λ (o : Option ℕ). cond (bytes_eq name q) (Some number) o) (is.others q named lacks)
       ∙ ap (λ (n : ℕ). cond (bytes_eq name q) (Some n) (number_of names q)) next
       ∙ number_after names name q (bytes_eq name q) (number_of names q) refl none refl;
 }
@@ -88,3 +101,55 @@ not_found names name differ =
     let all : position_or_len (λ n. bytes_eq n name) names ≡ length names =
     position_or_len_is (λ n. bytes_eq n name) names (length names) name (omega arith) (λ k below. unequal (get_or names k name) name (bytes_eq (get_or names k name) name) refl (differ k name below)) (λ below. absurd (omega arith)) in
     nowhere _ _ all
+
+-- A table takes the next name.
+pub table_more : (names : List (List ℕ)) (table : List Entry) (name : List ℕ) (entry : Entry) → IsTableOf names table → number_of names name ≡ None → entry.number ≡ length names →
+    ((other : List ℕ) → IsName other → (name_key other ≡ entry.key → other ≡ name) × (other ≡ name → name_key other ≡ entry.key)) →
+    IsTableOf (names ++ name ∷ []) (table ++ entry ∷ [])
+table_more names table name entry is none next apart = record {
+  numbered = All-push (HasNumber (names ++ name ∷ [])) table entry (numbered_more names name table is.numbered) (λ q named same.
+      let it : bytes_eq name q ≡ true = (bytes_eq-Decides name q).1 (sym ((apart q named).0 same)) in
+      sym (number_after names name q true (number_of names q) it none refl) ∙ ap Some (sym next));
+  whole = λ q named lacks.
+      let front : LacksKey table (name_key q) = λ k d inside same. lacks k d (omega (arith, length_push table entry)) (ap (λ (e : Entry). e.key) (get_or_append_left table (entry ∷ []) d k inside) ∙ same) in
+      let last : entry.key ≢ name_key q = λ same. lacks (length table) entry (omega (arith, length_push table entry)) (ap (λ (e : Entry). e.key) (get_or_push table entry entry (length table) refl) ∙ same) in
+      let other : bytes_eq name q ≡ false = unequal name q (bytes_eq name q) refl (λ same. last (sym ((apart q named).1 (sym same)))) in
+      sym (number_after names name q false (number_of names q) other none refl) ∙ is.whole q named front;
+}
+
+-- A table keeps what it has in another order.
+pub table_permuted : (names : List (List ℕ)) (xs ys : List Entry) → IsPermutation xs ys → IsTableOf names xs → IsTableOf names ys
+table_permuted names xs ys moved is = record {
+  numbered = All-permutation (HasNumber names) xs ys moved is.numbered;
+  whole = λ q named lacks. is.whole q named (All-permutation (λ entry. entry.key ≢ name_key q) ys xs (IsPermutation-sym xs ys moved) lacks);
+}
+
+-- All names are in the table, and none in the map.
+pub indexed_by_table : (names : List (List ℕ)) (table : List Entry) (recent : tree.BTreeMap ℕ ℕ) → AreApart names → length names ≤ 2 ^ 32 → IsTableOf names table →
+    IsSortedByKey (λ entry. entry.key) nat_cmp table → tree.IsEmpty recent → IsIndexed names table recent
+indexed_by_table names table recent apart few is sorted empty = record {
+  apart = apart;
+  few = few;
+  sorted = sorted;
+  numbered = is.numbered;
+  others = λ q named lacks. rw empty (sym (is.whole q named lacks));
+}
+
+-- A binary search by key that found a place tells the entry there.
+pub has_entry : (table : List Entry) (key place : ℕ) → place < length table → HoldsAt (λ entry. nat_cmp entry.key key ≡ Equal) table place →
+    Contains table (record { key = key; number = (get_or table place (record { key = 0; number = 0 })).number })
+has_entry table key place inside equal =
+    let blank : Entry = record { key = 0; number = 0 } in
+    let found : Entry = get_or table place blank in
+    let same : found.key ≡ key = ranked found.key key Equal (sym (equal blank)) in
+    let with_key : ℕ → Entry = λ k. record { key = k; number = found.number } in
+    (place, inside, get_or_default table place (with_key key) blank inside ∙ ap with_key same)
+
+-- One that found none tells that no entry has the key.
+pub lacks_key : (table : List Entry) (key place : ℕ) → IsSortedByKey (λ entry. entry.key) nat_cmp table → IsBinarySearchResult (λ entry. nat_cmp entry.key key) table (Err place) → LacksKey table key
+lacks_key table key place sorted parted =
+    let parts : IsPartitionPoint (λ entry. nat_cmp entry.key key ≡ Less) (λ entry. nat_cmp entry.key key ≡ Greater) table place = parted (searchable_from_sorted nat_cmp_total (λ entry. entry.key) table key sorted) in
+    λ k d below same. elim (cases_lt k place) [
+      | inl before ↦ let less : (get_or table k d).key < key = ranked (get_or table k d).key key Less (sym (parts.0 k d (omega arith) before)) in omega arith
+      | inr after ↦ let more : key < (get_or table k d).key = ranked (get_or table k d).key key Greater (sym (parts.1 k d after below)) in omega arith
+    ]

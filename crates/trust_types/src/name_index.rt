@@ -1,8 +1,10 @@
 //! The names of the accounts, and the number of each.
 
-ghost use Rattle.std.specs.Prelude.{◌≡◌, ◌<◌, ◌^◌, ◌++◌, ◌∷◌, [], ℕ, List, length, vec_len, slice_get, OnOk, IfOk, OnErr, Some, None};
+ghost use Rattle.std.specs.Prelude.{◌≡◌, ◌≢◌, ◌<◌, ◌≤◌, ◌^◌, ◌++◌, ◌∷◌, [], ℕ, List, All, Contains, MatchOption, length, vec_len, slice_get, OnOk, IfOk, OnErr, Some, None};
+ghost use Rattle.std.specs.List.Sorted.{IsSortedByKey};
+ghost use Rattle.std.specs.Ordering.{nat_cmp};
 ghost use Rattle.trust_types.specs.Names.{IsName};
-ghost use Rattle.trust_types.specs.NameLists.{number_of, AreApart, IsIndexed};
+ghost use Rattle.trust_types.specs.NameLists.{number_of, AreApart, IsTableOf, LacksKey};
 
 use crate::accounts::AccountNo;
 use crate::memory::NoMemory;
@@ -11,11 +13,21 @@ use std::alloc::{AllocError, Global};
 use std::collections::BTreeMap;
 use std::marker::Model;
 
+/// A line of the table: a name's key, and the number of its account.
+#[derive(Clone, Copy)]
+struct Entry {
+    key: u128,
+    number: u32,
+}
+
 /// Names that differ, in order of account number, with the number of each. Contracts see the list of the names.
 #[derive(Drop)]
 pub struct NameIndex {
     names: Vec<Name>,
-    numbers: BTreeMap<u128, u32>,
+    /// The first names, sorted by key.
+    table: Vec<Entry>,
+    /// The numbers of the other names, which were pushed since the table was made, by key.
+    recent: BTreeMap<u128, u32>,
 }
 
 impl Model for NameIndex {
@@ -26,7 +38,7 @@ impl Model for NameIndex {
 
     ghost view = { λ index. index.names.items };
 
-    ghost invariant = { λ index. IsIndexed index.names.items index.numbers };
+    ghost invariant = { λ index. IsIndexed index.names.items index.table.items index.recent };
 }
 
 impl NameIndex {
@@ -36,18 +48,23 @@ impl NameIndex {
     {
         NameIndex {
             names: Vec::new(alloc),
-            numbers: BTreeMap::new(alloc),
+            table: Vec::new(alloc),
+            recent: BTreeMap::new(alloc),
         }
     }
 
-    /// The names of such a list. One look-up a name.
+    /// The names of such a list, sorted for look-ups.
     pub fn of(alloc: Global, names: Vec<Name>) -> Result<NameIndex, NoMemory>
         requires apart { AreApart names.items }
         requires room { vec_len names < 2 ^ 32 }
         ensures { IfOk result (λ index. index ≡ names.items) }
     {
-        let numbers = numbers_of(alloc, &names)?;
-        Ok(NameIndex { names, numbers })
+        let table = table_of(alloc, &names)?;
+        Ok(NameIndex {
+            names,
+            table,
+            recent: BTreeMap::new(alloc),
+        })
     }
 
     /// How many names there are.
@@ -67,13 +84,17 @@ impl NameIndex {
     }
 
     /// The number of the account of that name; `None` where none has it. It looks at as many names as the logarithm
-    /// of their number.
+    /// of their number, and soonest at those that were there when the names were last sorted, by `of` or `settle`.
     pub fn find(&self, name: &Name) -> Option<AccountNo>
         ensures { result ≡ number_of self.now name.now }
     {
-        match self.numbers.get(&name.key()) {
-            Some(number) => Some(AccountNo(*number)),
-            None => None,
+        let key = name.key();
+        match look_up(&self.table, key) {
+            Some(number) => Some(AccountNo(number)),
+            None => match self.recent.get(&key) {
+                Some(number) => Some(AccountNo(*number)),
+                None => None,
+            },
         }
     }
 
@@ -85,8 +106,21 @@ impl NameIndex {
         ensures same { OnErr result (self.new ≡ self.old) }
     {
         self.names.reserve(1)?;
-        self.numbers.insert(name.key(), self.names.len() as u32)?;
+        self.recent.insert(name.key(), self.names.len() as u32)?;
         self.names.push_reserved(name);
+        Ok(())
+    }
+
+    /// Makes look-ups faster: call it before many of them. The names stay as they are, whatever it answers. It sorts
+    /// them all where more than about a ninth of them were pushed since they were last sorted, and else does nothing,
+    /// so calls between the pushes of many names take no more, all together, than a logarithm's steps a name.
+    pub fn settle(&mut self) -> Result<(), NoMemory>
+        ensures { self.new ≡ self.old }
+    {
+        if self.recent.len() > self.table.len() / 8 {
+            self.table = table_of(*self.names.allocator(), &self.names)?;
+            self.recent.clear();
+        }
         Ok(())
     }
 
@@ -99,15 +133,41 @@ impl NameIndex {
     }
 }
 
-/// The number of each name, by its key.
-fn numbers_of(alloc: Global, names: &[Name]) -> Result<BTreeMap<u128, u32>, AllocError>
+/// The table of all names.
+fn table_of(alloc: Global, names: &[Name]) -> Result<Vec<Entry>, AllocError>
     requires apart { AreApart names.now }
-    requires room { length names.now < 2 ^ 32 }
-    ensures { IfOk result (IsIndexed names.now) }
+    requires room { length names.now ≤ 2 ^ 32 }
+    ensures whole { IfOk result (λ table. IsTableOf names.now table.items) }
+    ensures sorted { IfOk result (λ table. IsSortedByKey (λ entry. entry.key) nat_cmp table.items) }
 {
-    let mut numbers = BTreeMap::new(alloc);
+    let mut table = entries_of(alloc, names)?;
+    table.sort_unstable_by_key(|entry| entry.key);
+    Ok(table)
+}
+
+/// An entry for each name, in order of account number.
+fn entries_of(alloc: Global, names: &[Name]) -> Result<Vec<Entry>, AllocError>
+    requires apart { AreApart names.now }
+    requires room { length names.now ≤ 2 ^ 32 }
+    ensures { IfOk result (λ entries. IsTableOf names.now entries.items) }
+{
+    let mut entries = Vec::with_capacity(alloc, names.len())?;
     for (number, name) in names.iter().enumerate() {
-        numbers.insert(name.key(), number as u32)?;
+        entries.push_reserved(Entry {
+            key: name.key(),
+            number: number as u32,
+        });
     }
-    Ok(numbers)
+    Ok(entries)
+}
+
+/// The number under a key in a table sorted by key.
+fn look_up(table: &[Entry], key: u128) -> Option<u32>
+    requires { IsSortedByKey (λ entry. entry.key) nat_cmp table.now }
+    ensures { MatchOption result (LacksKey table.now key) (λ number. Contains table.now (record { key = key; number = number })) }
+{
+    match table.binary_search_by_key(&key, |entry| entry.key) {
+        Ok(place) => Some(table[place].number),
+        Err(_) => None,
+    }
 }

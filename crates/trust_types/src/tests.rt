@@ -38,7 +38,11 @@ fn an_index_finds_each_name(rt: HostRuntime) -> Result<(), Fail> {
     index.push(raph)?;
     assert_eq!(rt; index.find(&raph), Some(AccountNo(0)));
     assert_eq!(rt; index.find(&alan), None);
+    index.settle()?;
     index.push(alan)?;
+    assert_eq!(rt; index.find(&raph), Some(AccountNo(0)));
+    assert_eq!(rt; index.find(&alan), Some(AccountNo(1)));
+    index.settle()?;
     assert_eq!(rt; index.find(&alan), Some(AccountNo(1)));
     let again = NameIndex::of(alloc, index.into_names())?;
     assert_eq!(rt; again.count(), 2);

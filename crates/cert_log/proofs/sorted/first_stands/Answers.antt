@@ -1,6 +1,5 @@
-use Rattle.std.proofs.Common.{arith, drop, ◌≡◌, List}
+use Rattle.std.proofs.Common.{arith}
 use Rattle.std.proofs.lemmas.Grind.{common_steps}
-use Rattle.trust_types.specs.declared.graphs.Cert.{Cert}
 use Rattle.cert_log.proofs.Listing.{grade_is}
 use Rattle.cert_log.proofs.Moving.{first_by}
 use Rattle.cert_log.proofs.sorted.first_stands.Goals as goal

@@ -1,4 +1,4 @@
-use Rattle.std.proofs.Common.{arith, sym, ◌≡◌, ◌∙◌, List, ℕ, ◌+◌}
+use Rattle.std.proofs.Common.{arith, ◌≡◌, ◌∙◌, List, ℕ, ◌+◌}
 use Rattle.std.specs.List.{swap}
 use Rattle.trust_types.specs.declared.graphs.Cert.{Cert}
 use Rattle.cert_log.proofs.Moving.{moved, passed}

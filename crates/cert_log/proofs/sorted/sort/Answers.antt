@@ -1,4 +1,4 @@
-use Rattle.std.proofs.Common.{rules, ℕ}
+use Rattle.std.proofs.Common.{rules}
 use Rattle.std.proofs.lemmas.List.Sorted.{answers_always}
 use Rattle.trust_types.specs.declared.graphs.Cert.{Cert}
 use Rattle.cert_log.proofs.sorted.sort.Goals as goal

@@ -1,4 +1,4 @@
-use Rattle.std.proofs.Common.{◌≡◌, ◌≤◌, ◌∙◌, ap, subst, List, length, ℕ, arith}
+use Rattle.std.proofs.Common.{◌∙◌, ap, subst, List, length, ℕ}
 use Rattle.trust_types.specs.declared.graphs.Cert.{Cert}
 use Rattle.cert_log.specs.declared.logs.Kept.{Kept}
 use Rattle.cert_log.specs.Log.{Keeps}

@@ -1,4 +1,4 @@
-use Rattle.std.proofs.Common.{◌≡◌, ◌≤◌, ◌<◌, ◌∷◌, ◌++◌, [], ◌∙◌, ap, subst, List, length, arith}
+use Rattle.std.proofs.Common.{◌≤◌, ◌<◌, ◌∷◌, ◌++◌, [], ◌∙◌, ap, subst, List, length, arith}
 use Rattle.std.proofs.lemmas.List.{length_push}
 use Rattle.trust_types.specs.declared.graphs.Cert.{Cert}
 use Rattle.cert_log.specs.declared.logs.Kept.{Kept}

@@ -1,5 +1,4 @@
-use Rattle.std.proofs.Common.{arith, ap, ◌∙◌, sym, subst, List, ℕ, ◌≡◌, ◌++◌, ◌∷◌, [], None, length, Option}
-use Rattle.std.specs.BTreeMap as tree
+use Rattle.std.proofs.Common.{arith, ap, ◌∙◌, List, ℕ, ◌≡◌, ◌<◌, ◌^◌, ◌++◌, ◌∷◌, [], None, length, Option}
 use Rattle.trust_types.specs.NameLists.{number_of, IsIndexed}
 use Rattle.trust_types.proofs.Indexing.{indexed_more}
 use Rattle.trust_types.proofs.name_index.NameIndex.push.Goals as goal
@@ -12,6 +11,7 @@ invariant_of-self-2 c =
     let before : List (List ℕ) = c.self.inside.names.items in
     let kept : c.reserve.new.self.items ≡ before = c.in_ok-reserve.ensures.items in
     let none : number_of before c.args.name ≡ None = ap (number_in c.args.name) c.self.view_is ∙ c.requires.new in
-    let more : IsIndexed (before ++ c.args.name ∷ []) c.insert.new.self =
-    indexed_more before c.self.inside.numbers c.insert.new.self c.args.name c.key.result c.len.result c.self.invariant none (grind (arith, c.len.ensures, ap length kept)) c.in_ok-insert.ensures.updates.0 c.key.ensures.apart in
+    let room : length before < 2 ^ 32 = omega (arith, ap length c.self.view_is, c.requires.room) in
+    let more : IsIndexed (before ++ c.args.name ∷ []) c.self.inside.table.items c.insert.new.self =
+    indexed_more before c.self.inside.table.items c.self.inside.recent c.insert.new.self c.args.name c.key.result c.len.result c.self.invariant none room (grind (arith, c.len.ensures, ap length kept)) c.in_ok-insert.ensures.updates.0 c.key.ensures.apart in
     rw (c.push_reserved.ensures.items, kept) more

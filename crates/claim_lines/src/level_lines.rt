@@ -1,0 +1,63 @@
+//! The line between a site and what is claimed of it.
+
+ghost use Rattle.std.specs.Prelude.{◌≡◌, IfOk};
+ghost use Rattle.trust_types.specs.Levels.{IsGrade};
+ghost use Rattle.text_lines.specs.Words.{words};
+ghost use Rattle.claim_lines.specs.Claim.{begins_with_level, is_level_line, grade_in, level_line};
+
+use crate::nodes::is_same;
+use text_lines::{TextKind, Words, is_line};
+use trust_types::Level;
+
+/// Whether the line ends the site: it is one whose first word is `level`. It looks at each byte of the line once, and at
+/// those of the first word twice more.
+pub fn is_level_line(line: &[u8]) -> bool
+    ensures { result ≡ is_level_line line.now }
+{
+    is_line(line) && begins_with_level(line)
+}
+
+fn begins_with_level(line: &[u8]) -> bool
+    ensures { result ≡ begins_with_level (words line.now) }
+{
+    match Words::of(line).next_word() {
+        Some(word) => is_same(word, b"level"),
+        None => false,
+    }
+}
+
+/// The grade of a line `level GRADE`.
+///
+/// # Errors
+/// [`TextKind::BadLine`] where the line has another form, and then [`TextKind::BadLevel`] where its second word spells no
+/// grade.
+#[tactic(auto, unfolding(crate::specs::Claim::level_line))]
+pub fn read_level(line: &[u8]) -> Result<Level, TextKind>
+    ensures level { result ≡ level_line line.now }
+    ensures grade { IfOk result IsGrade }
+{
+    if !is_level_line(line) {
+        return Err(TextKind::BadLine);
+    }
+    grade_in(&mut Words::of(line))
+}
+
+/// The grade that the second of two words spells.
+fn grade_in(words: &mut Words) -> Result<Level, TextKind>
+    ensures level { result ≡ grade_in words.old }
+    ensures grade { IfOk result IsGrade }
+{
+    let Some(_) = words.next_word() else {
+        return Err(TextKind::BadLine);
+    };
+    let Some(name) = words.next_word() else {
+        return Err(TextKind::BadLine);
+    };
+    if let Some(_) = words.next_word() {
+        return Err(TextKind::BadLine);
+    }
+    match Level::of_name(name) {
+        Some(level) if level.is_grade() => Ok(level),
+        _ => Err(TextKind::BadLevel),
+    }
+}

@@ -1,0 +1,5 @@
+use Rattle.roster_form.proofs.Sound.{all_sound}
+use Rattle.roster_form.proofs.candidates.Candidate.of.Goals as goal
+
+pub returns-clause-sound : goal.returns-clause-sound
+returns-clause-sound c = all_sound _ c.requires.apprentice.proven c.requires.journeyer.proven c.requires.master.proven

@@ -1,0 +1,3 @@
+pub mod LevelRosters
+pub mod Bounded
+pub mod Candidates

@@ -1,0 +1,3 @@
+mod Listing
+mod Writing
+mod Proving

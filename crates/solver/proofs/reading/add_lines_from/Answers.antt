@@ -1,0 +1,23 @@
+use Rattle.std.proofs.Common.{ℕ, refl, ap, ◌∙◌, arith}
+use Rattle.trust_types.specs.declared.graphs.Cert.{Cert}
+use Rattle.trust_types.specs.declared.accounts.Node.TheVariants.{Account}
+use Rattle.trust_types.specs.Flow.{Flow}
+use Rattle.trust_types.specs.Layout.{Rows, taker}
+use Rattle.frozen.specs.Revision.{Revision}
+use Rattle.flow_engine.specs.Solved.{flow_in}
+use Rattle.solver.proofs.Writing.{row_none, row_more}
+use Rattle.solver.proofs.reading.add_lines_from.Goals as goal
+
+pub loop-i-init : goal.loop-i-init
+loop-i-init c = row_none c.args.frozen.now.rows (flow_in c.args.workspace.now) c.args.giver c.args.lines.now.items c.requires.goes_along c.requires.written
+
+pub loop-i-preserved : goal.loop-i-preserved
+loop-i-preserved c =
+    let f : Flow = flow_in c.args.workspace.now in
+    let r : Rows = c.args.frozen.now.rows in
+    let a : ℕ = c.args.giver in
+    let i : ℕ = c.loop-i.i in
+    rw c.in_ok-add_line.ensures
+    (row_more r f a i c.loop-i.lines.items (record { from = Account a; to = c.given-to.result.to; units = c.units.result }) c.requires.readers c.requires.giver (omega (arith, c.degree-i-end.ensures))
+    c.loop-i.invariant refl (ap (λ (d : Cert). d.to) c.given-to.ensures)
+    (c.units.ensures ∙ ap (λ (g : Revision). f (Account a) (taker g.rows a i)) c.requires.graph))

@@ -1,0 +1,104 @@
+//! Rosters of a frozen graph, solved in a workspace of their own.
+
+ghost use Rattle.std.specs.Prelude.{◌≡◌, ◌<◌, IfOk};
+ghost use Rattle.trust_types.specs.Levels.{IsGrade};
+ghost use Rattle.split_graph.specs.Network.{Fits};
+ghost use Rattle.roster_form.specs.LevelRosters.{lists_of};
+ghost use Rattle.roster_form.specs.Candidates.{IsSound, AreSound, IsRosterFor};
+
+use crate::reading::roster_of;
+use flow_engine::Workspace;
+use frozen::Frozen;
+use roster_form::{Candidate, LevelRoster};
+use std::alloc::Global;
+use std::marker::Brand;
+use std::sync::Arc;
+use std::sync::ledger::{Blank, Ledger};
+use trust_types::{CertGraph, Level, NoMemory, Steps};
+
+/// A workspace with room for the graph, and for no more.
+fn workspace_for(alloc: Global, frozen: &Frozen) -> Result<Workspace, NoMemory>
+    ensures { IfOk result (λ workspace. Fits frozen.now workspace.network.room) }
+{
+    Workspace::reserve(alloc, frozen.accounts(), frozen.certs())
+}
+
+/// Solves the graph at a level.
+fn solve_level<L: Ledger>(
+    alloc: Global,
+    workspace: &mut Workspace,
+    frozen: &Frozen,
+    level: Level,
+    steps: &mut Steps<L>,
+) -> Result<LevelRoster, NoMemory>
+    requires grade { IsGrade level }
+    requires room { Fits frozen.now workspace.old.network.room }
+    ensures room { workspace.new.network.room ≡ workspace.old.network.room }
+    ensures roster { IfOk result (λ roster. IsRosterFor frozen.now level roster) }
+{
+    workspace.solve(frozen, level, steps);
+    roster_of(alloc, workspace, frozen, level)
+}
+
+/// Solves the graph at one level, in a workspace of its own.
+fn solve_once<L: Ledger>(
+    alloc: Global,
+    frozen: &Frozen,
+    level: Level,
+    blank: Blank,
+) -> Result<LevelRoster, NoMemory>
+    requires grade { IsGrade level }
+    requires name { blank.name ≡ L.name }
+    requires parts { blank.parts ≡ L.parts }
+    requires some { 0 < blank.parts }
+    ensures { IfOk result (λ roster. IsRosterFor frozen.now level roster) }
+{
+    let mut steps = Steps::<L>::new(blank);
+    let mut workspace = workspace_for(alloc, frozen)?;
+    solve_level(alloc, &mut workspace, frozen, level, &mut steps)
+}
+
+/// Solves the graph at each grade in turn, in one workspace.
+fn solve_grades<L: Ledger>(
+    alloc: Global,
+    frozen: &Arc<Frozen>,
+    blank: Blank,
+) -> Result<Candidate, NoMemory>
+    requires name { blank.name ≡ L.name }
+    requires parts { blank.parts ≡ L.parts }
+    requires some { 0 < blank.parts }
+    ensures graph { IfOk result (λ candidate. candidate.graph ≡ frozen.now.value) }
+    ensures sound { IfOk result (λ candidate. AreSound candidate) }
+{
+    let mut steps = Steps::<L>::new(blank);
+    let mut workspace = workspace_for(alloc, frozen)?;
+    let apprentice = solve_level(alloc, &mut workspace, frozen, Level::Apprentice, &mut steps)?;
+    let journeyer = solve_level(alloc, &mut workspace, frozen, Level::Journeyer, &mut steps)?;
+    let master = solve_level(alloc, &mut workspace, frozen, Level::Master, &mut steps)?;
+    Ok(Candidate::of(Arc::try_clone(frozen)?, apprentice, journeyer, master))
+}
+
+/// The roster of a grade over a graph. It takes memory once for the engine, as much as the graph's own accounts and certificates
+/// need, and for the roster.
+///
+/// # Errors
+/// [`NoMemory`] where that memory can't be had, and for no other cause.
+pub fn solve_one(alloc: Global, frozen: &Frozen, level: Level) -> Result<LevelRoster, NoMemory>
+    requires { IsGrade level }
+    ensures level { IfOk result (λ roster. roster.level ≡ level) }
+    ensures sound { IfOk result (λ roster. IsSound frozen.now level (lists_of roster)) }
+{
+    solve_once::<Brand>(alloc, frozen, level, Blank::new(1))
+}
+
+/// The rosters of the three grades over a graph. It takes memory once for the engine, as much as the graph's own accounts and
+/// certificates need, and for the rosters.
+///
+/// # Errors
+/// [`NoMemory`] where that memory can't be had, and for no other cause.
+pub fn solve_alone(alloc: Global, frozen: &Arc<Frozen>) -> Result<Candidate, NoMemory>
+    ensures graph { IfOk result (λ candidate. candidate.graph ≡ frozen.now.value) }
+    ensures sound { IfOk result (λ candidate. AreSound candidate) }
+{
+    solve_grades::<Brand>(alloc, frozen, Blank::new(1))
+}
