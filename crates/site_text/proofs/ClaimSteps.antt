@@ -1,28 +1,24 @@
 -- Each line of a canonical text's claim adds its line of the flow, or its node.
-use Rattle.std.proofs.Common.{◌≡◌, ◌≢◌, ℕ, ◌+◌, ◌<◌, ◌≤◌, ◌^◌, Bool, true, false, ◌&&◌, ◌||◌, not, cond, List, [], ◌∷◌, ◌++◌, length, get_or, Option, Some, None, Result, Ok, Err, All, AllPairs, Contains, IsTrue, refl, ap, sym, ◌∙◌, arith, nat_lt, nat_le, map, codes, subst, if◌then◌else◌, ◌==◌, decimal}
+use Rattle.std.proofs.Common.{◌≡◌, ◌≢◌, ℕ, ◌<◌, ◌≤◌, ◌^◌, Bool, true, false, List, [], ◌∷◌, ◌++◌, length, get_or, Some, Ok, All, Contains, refl, ap, ◌∙◌, arith, map, codes, subst, decimal}
 use Rattle.std.specs.List.{list_any, list_all, join_with_byte}
 use Rattle.std.proofs.lemmas.Bool.Decides.{nat_tests}
 use Rattle.std.proofs.lemmas.List.Elements.{Contains-get_or}
 use Rattle.std.proofs.lemmas.List.Folds.{list_any_none}
-use Rattle.trust_types.specs.declared.levels.Level.{Level}
 use Rattle.trust_types.specs.declared.accounts.Node.{Node}
 use Rattle.trust_types.specs.declared.accounts.Node.TheVariants.{Root, Account}
 use Rattle.trust_types.specs.declared.flows.FlowLine.{FlowLine}
-use Rattle.trust_types.specs.Names.{is_name, IsName}
+use Rattle.trust_types.specs.Names.{is_name}
 use Rattle.trust_types.specs.NameLists.{number_of}
 use Rattle.trust_types.specs.Lines.{place, same_node, is_before}
 use Rattle.trust_types.specs.Proven.{Lists, AreInOrder}
-use Rattle.text_lines.specs.declared.faults.TextKind.{TextKind}
-use Rattle.text_lines.specs.declared.faults.TextKind.TheVariants.{BadLine, BadName, BadNumber, Twice, Unknown}
-use Rattle.text_lines.specs.Words.{words, is_line, is_word}
-use Rattle.text_lines.specs.Steps.{◌>>=◌, or_fault, none_if}
+use Rattle.text_lines.specs.Words.{is_word}
+use Rattle.text_lines.specs.Steps.{or_fault}
 use Rattle.text_lines.specs.Reading.{reading}
-use Rattle.text_lines.proofs.Decimals.{is_word-decimal}
 use Rattle.text_lines.proofs.Joining.{words-join, is_line-join, reading-append, reading-each}
 use Rattle.claim_lines.specs.Claim.{Claim, nothing, is_node, node_of, units_of, is_of_pair, is_placed, flow_line, placed_node, pass_line, full_line, claim_form, claim_line}
 use Rattle.cut_check.specs.Line.{name_of, node_name}
 use Rattle.site_text.specs.Canonical.{AreAmong, flow_words, pass_words, full_words}
-use Rattle.site_text.proofs.Spelling.{AreNames, name_at, number_of-name, is_word-name, node_word, is_node-name, node_of-name, units_of-decimal}
+use Rattle.site_text.proofs.Spelling.{AreNames, name_at, number_of-name, is_node-name, node_of-name, units_of-decimal}
 use Rattle.site_text.proofs.Wording.{flow-worded, pass-worded, full-worded}
 use Rattle.site_text.proofs.Placed.{IsPlaced, placed, of_all, of_pairs}
 
@@ -63,11 +59,11 @@ flow-step names r before l rest are can e =
     let small : l.units < 2 ^ 32 = of_all (λ m. m.units < 2 ^ 32) before l r.flow at can.small in
     let earlier : All (λ m. is_before m l ≡ true) before = of_pairs (λ m k. is_before m k ≡ true) before l r.flow at can.order.flow in
     let new : list_any (is_of_pair l.from l.to) before ≡ false =
-        list_any_none (is_of_pair l.from l.to) before (λ k d below. other_pair l.from l.to (get_or before k d) l.units (earlier k d below)) in
+    list_any_none (is_of_pair l.from l.to) before (λ k d below. other_pair l.from l.to (get_or before k d) l.units (earlier k d below)) in
     claim_line-join names (claimed before [] []) (claimed (before ++ l ∷ []) [] []) (flow_words names l) (omega arith) (flow-worded names are l giver taker small)
-        (flow-form names (claimed before [] []) (node_name names l.from) (name_of names l.to) (decimal l.units) l.from l.to l.units
-            (is_node-name names are l.from giver) (name_at names are l.to taker) (node_of-name names are l.from giver) (number_of-name names are l.to taker)
-            (units_of-decimal l.units small some) new)
+    (flow-form names (claimed before [] []) (node_name names l.from) (name_of names l.to) (decimal l.units) l.from l.to l.units
+    (is_node-name names are l.from giver) (name_at names are l.to taker) (node_of-name names are l.from giver) (number_of-name names are l.to taker)
+    (units_of-decimal l.units small some) new)
 
 placed-form : (names : List (List ℕ)) (c : Claim) (word : List ℕ) (x : Node) → is_node word ≡ true → node_of names word ≡ Some x → is_placed c x ≡ false → placed_node names c word ≡ Ok x
 unfolding placed_node
@@ -95,10 +91,10 @@ pass-step names r before x rest are can e =
     let at : IsPlaced before x r.pass = placed before x rest r.pass e in
     let among : place x ≤ length names = of_all (λ y. place y ≤ length names) before x r.pass at can.among.pass in
     let new : is_placed (claimed r.flow before []) x ≡ false =
-        rw (not_among x before (of_pairs (λ y z. place y < place z) before x r.pass at can.order.pass)) refl in
+    rw (not_among x before (of_pairs (λ y z. place y < place z) before x r.pass at can.order.pass)) refl in
     claim_line-join names (claimed r.flow before []) (claimed r.flow (before ++ x ∷ []) []) (pass_words names x) (omega arith) (pass-worded names are x among)
-        (pass-form names (claimed r.flow before []) (node_name names x) x
-            (placed-form names (claimed r.flow before []) (node_name names x) x (is_node-name names are x among) (node_of-name names are x among) new))
+    (pass-form names (claimed r.flow before []) (node_name names x) x
+    (placed-form names (claimed r.flow before []) (node_name names x) x (is_node-name names are x among) (node_of-name names are x among) new))
 
 same_place : (x y : Node) → place x ≡ place y → y ≡ x
 same_place Root Root e = refl
@@ -116,14 +112,14 @@ full-step names r before x rest are can e =
     let at : IsPlaced before x r.full = placed before x rest r.full e in
     let among : place x ≤ length names = of_all (λ y. place y ≤ length names) before x r.full at can.among.full in
     let elsewhere : list_any (same_node x) r.pass ≡ false = list_any_none (same_node x) r.pass (λ k d inside.
-        apart_node x (get_or r.pass k d) (same_node x (get_or r.pass k d)) refl (λ same.
-            let passes : Contains r.pass x = subst (λ (y : Node). Contains r.pass y) same (Contains-get_or r.pass k d inside) in
-            can.order.apart x passes (length before, at.within, at.at x))) in
+    apart_node x (get_or r.pass k d) (same_node x (get_or r.pass k d)) refl (λ same.
+    let passes : Contains r.pass x = subst (λ (y : Node). Contains r.pass y) same (Contains-get_or r.pass k d inside) in
+    can.order.apart x passes (length before, at.within, at.at x))) in
     let new : is_placed (claimed r.flow r.pass before) x ≡ false =
-        rw (elsewhere, not_among x before (of_pairs (λ y z. place y < place z) before x r.full at can.order.full)) refl in
+    rw (elsewhere, not_among x before (of_pairs (λ y z. place y < place z) before x r.full at can.order.full)) refl in
     claim_line-join names (claimed r.flow r.pass before) (claimed r.flow r.pass (before ++ x ∷ [])) (full_words names x) (omega arith) (full-worded names are x among)
-        (full-form names (claimed r.flow r.pass before) (node_name names x) x
-            (placed-form names (claimed r.flow r.pass before) (node_name names x) x (is_node-name names are x among) (node_of-name names are x among) new))
+    (full-form names (claimed r.flow r.pass before) (node_name names x) x
+    (placed-form names (claimed r.flow r.pass before) (node_name names x) x (is_node-name names are x among) (node_of-name names are x among) new))
 
 -- The lines of a claim, but for the first.
 abbrev pub claim_lines : List (List ℕ) → Lists → List (List ℕ)
@@ -135,13 +131,13 @@ pub reading-claim : (names : List (List ℕ)) (r : Lists) (n : ℕ) → AreNames
     reading (claim_line names) n nothing (claim_lines names r) ≡ Ok (claimed r.flow r.pass r.full)
 reading-claim names r n are can =
     let flow_is : reading (claim_line names) n nothing (map (λ l. spaced (flow_words names l)) r.flow) ≡ Ok (claimed r.flow [] []) =
-        reading-each (claim_line names) n (λ l. spaced (flow_words names l)) (λ before. claimed before [] []) r.flow (λ before l rest e. flow-step names r before l rest are can e) in
+    reading-each (claim_line names) n (λ l. spaced (flow_words names l)) (λ before. claimed before [] []) r.flow (λ before l rest e. flow-step names r before l rest are can e) in
     let pass_is : (m : ℕ) → reading (claim_line names) m (claimed r.flow [] []) (map (λ x. spaced (pass_words names x)) r.pass) ≡ Ok (claimed r.flow r.pass []) = λ m.
-        reading-each (claim_line names) m (λ x. spaced (pass_words names x)) (λ before. claimed r.flow before []) r.pass (λ before x rest e. pass-step names r before x rest are can e) in
+    reading-each (claim_line names) m (λ x. spaced (pass_words names x)) (λ before. claimed r.flow before []) r.pass (λ before x rest e. pass-step names r before x rest are can e) in
     let full_is : (m : ℕ) → reading (claim_line names) m (claimed r.flow r.pass []) (map (λ x. spaced (full_words names x)) r.full) ≡ Ok (claimed r.flow r.pass r.full) = λ m.
-        reading-each (claim_line names) m (λ x. spaced (full_words names x)) (λ before. claimed r.flow r.pass before) r.full (λ before x rest e. full-step names r before x rest are can e) in
+    reading-each (claim_line names) m (λ x. spaced (full_words names x)) (λ before. claimed r.flow r.pass before) r.full (λ before x rest e. full-step names r before x rest are can e) in
     let front : reading (claim_line names) n nothing (map (λ l. spaced (flow_words names l)) r.flow ++ map (λ x. spaced (pass_words names x)) r.pass) ≡ Ok (claimed r.flow r.pass []) =
-        reading-append (claim_line names) n nothing (claimed r.flow [] []) (map (λ l. spaced (flow_words names l)) r.flow) (map (λ x. spaced (pass_words names x)) r.pass) flow_is
-        ∙ pass_is _ in
+    reading-append (claim_line names) n nothing (claimed r.flow [] []) (map (λ l. spaced (flow_words names l)) r.flow) (map (λ x. spaced (pass_words names x)) r.pass) flow_is
+    ∙ pass_is _ in
     reading-append (claim_line names) n nothing (claimed r.flow r.pass []) (map (λ l. spaced (flow_words names l)) r.flow ++ map (λ x. spaced (pass_words names x)) r.pass) (map (λ x. spaced (full_words names x)) r.full) front
     ∙ full_is _

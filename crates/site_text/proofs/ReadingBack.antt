@@ -1,39 +1,32 @@
 -- A canonical text is read again as a proof over the same site, of the same level, flow and cut.
-use Rattle.std.proofs.Common.{◌≡◌, ◌≢◌, ℕ, ◌+◌, ◌<◌, ◌≤◌, ◌^◌, Bool, true, false, ◌&&◌, ◌||◌, not, if◌then◌else◌, List, [], ◌∷◌, ◌++◌, length, take, drop, get_or, Result, Ok, Err, All, IsTrue, refl, ap, sym, subst, ◌∙◌, arith, map, codes, nat_lt, append_assoc}
+use Rattle.std.proofs.Common.{◌≡◌, ◌≢◌, ℕ, ◌+◌, ◌<◌, Bool, true, false, ◌&&◌, ◌||◌, not, if◌then◌else◌, List, [], ◌∷◌, ◌++◌, length, take, drop, get_or, Ok, All, IsTrue, refl, ap, ◌∙◌, arith, map, nat_lt, append_assoc}
 use Rattle.std.specs.Prelude.{flat_map}
-use Rattle.std.specs.List.{list_any, list_all, join_with_byte, before_first, position_or_len}
-use Rattle.std.specs.Str.{bytes_eq}
+use Rattle.std.specs.List.{list_any, list_all, join_with_byte, position_or_len}
 use Rattle.std.specs.List.Sorted.{IsStrictlyIncreasing}
 use Rattle.std.proofs.lemmas.Bool.Decides.{nat_tests}
 use Rattle.std.proofs.lemmas.Simd.{map-map}
-use Rattle.std.proofs.lemmas.List.{map-append, length-append, length-map}
+use Rattle.std.proofs.lemmas.List.{map-append}
 use Rattle.std.proofs.lemmas.List.Elements.{Contains-get_or}
 use Rattle.std.proofs.lemmas.List.Folds.{list_all-append}
 use Rattle.std.proofs.Math.Seq.{take-append_seam, drop-append_seam}
 use Rattle.trust_types.specs.declared.levels.Level.{Level}
 use Rattle.trust_types.specs.declared.levels.Level.TheVariants.{Observer, Apprentice, Journeyer, Master}
-use Rattle.trust_types.specs.declared.accounts.Node.{Node}
 use Rattle.trust_types.specs.declared.accounts.Node.TheVariants.{Root}
-use Rattle.trust_types.specs.declared.flows.FlowLine.{FlowLine}
-use Rattle.trust_types.specs.declared.flows.Side.{Side}
 use Rattle.trust_types.specs.declared.flows.Side.TheVariants.{Outside, Pass, Full}
 use Rattle.trust_types.specs.declared.graphs.Cert.{Cert}
-use Rattle.trust_types.specs.Levels.{IsGrade, level_name}
+use Rattle.trust_types.specs.Levels.{IsGrade}
 use Rattle.trust_types.specs.Certs.{CanStand}
 use Rattle.trust_types.specs.Tables.{IsTable}
 use Rattle.trust_types.specs.Kept.{accounts, certificates}
 use Rattle.trust_types.specs.Lines.{sides_of, same_node}
 use Rattle.trust_types.specs.Proven.{Lists}
-use Rattle.text_lines.specs.Words.{lines, words, is_line, is_word}
-use Rattle.text_lines.specs.Steps.{◌>>=◌, at_line, none_if}
-use Rattle.text_lines.specs.Reading.{reading}
+use Rattle.text_lines.specs.Words.{lines}
 use Rattle.text_lines.proofs.Joining.{words-join, is_line-join, goes_on-join, lines-ended, and_true, both, not_true}
-use Rattle.site_lines.specs.Site.{site_line}
-use Rattle.claim_lines.specs.Claim.{Claim, is_level_line, begins_with_level, level_line, claim_line, has_root}
+use Rattle.claim_lines.specs.Claim.{Claim, is_level_line, begins_with_level, level_line, has_root}
 use Rattle.site_text.specs.Site.{SiteText, ProofText, site_of, site_part, claim_part, claim_of, proof_of, proof}
-use Rattle.site_text.specs.View.{View, of_text}
+use Rattle.site_text.specs.View.{View}
 use Rattle.site_text.specs.Canonical.{line, caps_words, account_words, seed_words, cert_words, level_words, flow_words, pass_words, full_words, site_words, claim_words, IsCanonical, IsReadAs}
-use Rattle.site_text.proofs.Spelling.{AreNames, is_word-level, level_of-name}
+use Rattle.site_text.proofs.Spelling.{AreNames}
 use Rattle.site_text.proofs.Wording.{IsWorded, AreWorded, all_words, all-worded, caps-worded, account-worded, seed-worded, cert-worded, level-worded, flow-worded, pass-worded, full-worded}
 use Rattle.site_text.proofs.Recorded.{records, accounts-records, certificates-records}
 use Rattle.site_text.proofs.SiteSteps.{site_lines, reading-site}
@@ -73,21 +66,21 @@ site-worded table names seeds certs is are within stand =
     let of_certs : AreWorded (map (cert_words names) certs) = all-worded (cert_words names) certs (λ k d inside. cert-worded names are (get_or certs k d) (stand.among k d inside)) in
     list_all-append all_words ((caps_words table ∷ map account_words names) ++ map (seed_words names) seeds) (map (cert_words names) certs)
     ∙ and_true _ _
-        (list_all-append all_words (caps_words table ∷ map account_words names) (map (seed_words names) seeds)
-            ∙ and_true _ _ (and_true (all_words (caps_words table)) (list_all all_words (map account_words names)) (caps-worded table is) of_accounts) of_seeds)
-        of_certs
+    (list_all-append all_words (caps_words table ∷ map account_words names) (map (seed_words names) seeds)
+    ∙ and_true _ _ (and_true (all_words (caps_words table)) (list_all all_words (map account_words names)) (caps-worded table is) of_accounts) of_seeds)
+    of_certs
 
 claim-worded : (names : List (List ℕ)) (level : Level) (r : Lists) → AreNames names → AreWritable (length names) r → AreWorded (claim_words names level r)
 claim-worded names level r are can =
     let of_flow : AreWorded (map (flow_words names) r.flow) = all-worded (flow_words names) r.flow (λ k d inside.
-        flow-worded names are (get_or r.flow k d) (can.among.givers k d inside) (can.among.takers k d inside) (can.small k d inside)) in
+    flow-worded names are (get_or r.flow k d) (can.among.givers k d inside) (can.among.takers k d inside) (can.small k d inside)) in
     let of_pass : AreWorded (map (pass_words names) r.pass) = all-worded (pass_words names) r.pass (λ k d inside. pass-worded names are (get_or r.pass k d) (can.among.pass k d inside)) in
     let of_full : AreWorded (map (full_words names) r.full) = all-worded (full_words names) r.full (λ k d inside. full-worded names are (get_or r.full k d) (can.among.full k d inside)) in
     list_all-append all_words ((level_words level ∷ map (flow_words names) r.flow) ++ map (pass_words names) r.pass) (map (full_words names) r.full)
     ∙ and_true _ _
-        (list_all-append all_words (level_words level ∷ map (flow_words names) r.flow) (map (pass_words names) r.pass)
-            ∙ and_true _ _ (and_true (all_words (level_words level)) (list_all all_words (map (flow_words names) r.flow)) (level-worded level) of_flow) of_pass)
-        of_full
+    (list_all-append all_words (level_words level ∷ map (flow_words names) r.flow) (map (pass_words names) r.pass)
+    ∙ and_true _ _ (and_true (all_words (level_words level)) (list_all all_words (map (flow_words names) r.flow)) (level-worded level) of_flow) of_pass)
+    of_full
 
 -- The level's line is the first one that is a level's.
 abbrev is_other : List (List ℕ) → Bool
@@ -106,11 +99,11 @@ site-other : (table : List ℕ) (names : List (List ℕ)) (seeds : List ℕ) (ce
 site-other table names seeds certs =
     list_all-append is_other ((caps_words table ∷ map account_words names) ++ map (seed_words names) seeds) (map (cert_words names) certs)
     ∙ and_true _ _
-        (list_all-append is_other (caps_words table ∷ map account_words names) (map (seed_words names) seeds)
-            ∙ and_true _ _
-                (and_true (is_other (caps_words table)) (list_all is_other (map account_words names)) (caps-other table) (all_other account_words (λ name. refl) names))
-                (all_other (seed_words names) (λ a. refl) seeds))
-        (all_other (cert_words names) (λ c. refl) certs)
+    (list_all-append is_other (caps_words table ∷ map account_words names) (map (seed_words names) seeds)
+    ∙ and_true _ _
+    (and_true (is_other (caps_words table)) (list_all is_other (map account_words names)) (caps-other table) (all_other account_words (λ name. refl) names))
+    (all_other (seed_words names) (λ a. refl) seeds))
+    (all_other (cert_words names) (λ c. refl) certs)
 
 other_line : (ws : List (List ℕ)) → IsWorded ws → is_other ws ≡ true → is_level_line (spaced ws) ≡ false
 other_line ws each other =
@@ -179,9 +172,9 @@ unfolding proof_of
 proof_of-parts wss first others site level claim worded other is read claims =
     let at : position_or_len is_level_line (map spaced wss ++ first ∷ others) ≡ length (map spaced wss) = position-level wss first others worded other is in
     let site_is : site_part (map spaced wss ++ first ∷ others) ≡ map spaced wss =
-        ap (λ k. take k (map spaced wss ++ first ∷ others)) at ∙ take-append_seam (map spaced wss) (first ∷ others) in
+    ap (λ k. take k (map spaced wss ++ first ∷ others)) at ∙ take-append_seam (map spaced wss) (first ∷ others) in
     let claim_is : claim_part (map spaced wss ++ first ∷ others) ≡ first ∷ others =
-        ap (λ k. drop k (map spaced wss ++ first ∷ others)) at ∙ drop-append_seam (map spaced wss) (first ∷ others) in
+    ap (λ k. drop k (map spaced wss ++ first ∷ others)) at ∙ drop-append_seam (map spaced wss) (first ∷ others) in
     rw (site_is, claim_is, read, claims (length (map spaced wss) + 1)) refl
 
 -- The proof that a canonical text is read as.
@@ -197,17 +190,17 @@ proof-canonical v level r text is c =
     let within : All (λ a. a < length v.names) c.seeds = seeds-within v level r text is c in
     let worded : AreWorded (site_words v.table v.names c.seeds c.certs) = site-worded v.table v.names c.seeds c.certs is.table is.names within c.stand in
     let all : AreWorded (site_words v.table v.names c.seeds c.certs ++ claim_words v.names level r) =
-        list_all-append all_words (site_words v.table v.names c.seeds c.certs) (claim_words v.names level r) ∙ and_true _ _ worded (claim-worded v.names level r is.names is.lists) in
+    list_all-append all_words (site_words v.table v.names c.seeds c.certs) (claim_words v.names level r) ∙ and_true _ _ worded (claim-worded v.names level r is.names is.lists) in
     let lines_are : lines text ≡ map spaced (site_words v.table v.names c.seeds c.certs) ++ spaced (level_words level) ∷ claim_lines v.names r =
-        ap lines c.written ∙ lines-words (site_words v.table v.names c.seeds c.certs ++ claim_words v.names level r) all
-        ∙ map-append spaced (site_words v.table v.names c.seeds c.certs) (claim_words v.names level r)
-        ∙ ap (λ ls. map spaced (site_words v.table v.names c.seeds c.certs) ++ ls) (claim-lines v.names level r) in
+    ap lines c.written ∙ lines-words (site_words v.table v.names c.seeds c.certs ++ claim_words v.names level r) all
+    ∙ map-append spaced (site_words v.table v.names c.seeds c.certs) (claim_words v.names level r)
+    ∙ ap (λ ls. map spaced (site_words v.table v.names c.seeds c.certs) ++ ls) (claim-lines v.names level r) in
     let site_is : site_of (map spaced (site_words v.table v.names c.seeds c.certs)) ≡ Ok (record { table = v.table; records = records v.names c.seeds c.certs }) =
-        ap site_of (site-lines v.table v.names c.seeds c.certs) ∙ site_of-lines v.table v.names c.seeds c.certs is.table is.names within c.rises c.stand in
+    ap site_of (site-lines v.table v.names c.seeds c.certs) ∙ site_of-lines v.table v.names c.seeds c.certs is.table is.names within c.rises c.stand in
     ap proof_of lines_are
     ∙ proof_of-parts (site_words v.table v.names c.seeds c.certs) (spaced (level_words level)) (claim_lines v.names r) (record { table = v.table; records = records v.names c.seeds c.certs })
-        level (claimed r.flow r.pass r.full) worded (site-other v.table v.names c.seeds c.certs) (is_level_line-words level) site_is
-        (λ n. claim_of-lines v.names (accounts (records v.names c.seeds c.certs)) level r n (accounts-records v.names c.seeds c.certs) is.grade is.names is.lists is.root)
+    level (claimed r.flow r.pass r.full) worded (site-other v.table v.names c.seeds c.certs) (is_level_line-words level) site_is
+    (λ n. claim_of-lines v.names (accounts (records v.names c.seeds c.certs)) level r n (accounts-records v.names c.seeds c.certs) is.grade is.names is.lists is.root)
 
 -- The law of reading back.
 pub read_back : (v : View) (level : Level) (r : Lists) (text : List ℕ) → IsWritten v level r → IsCanonical v level r text → IsReadAs v level r text

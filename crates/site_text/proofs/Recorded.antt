@@ -1,8 +1,7 @@
 -- The records of a canonical text's site lines, and what they say.
-use Rattle.std.proofs.Common.{◌≡◌, ◌≢◌, ℕ, ◌+◌, ◌<◌, ◌≤◌, Bool, true, false, ◌&&◌, ◌||◌, not, cond, List, [], ◌∷◌, ◌++◌, length, get_or, Option, Some, None, All, AllPairs, IsTrue, Contains, refl, ap, sym, ◌∙◌, arith, nat_lt, map, subst, inl, inr, ◌⊎◌, if◌then◌else◌, ◌==◌}
-use Rattle.std.specs.Prelude.{filter_map, fold}
+use Rattle.std.proofs.Common.{◌≡◌, ℕ, ◌+◌, ◌≤◌, Bool, true, false, ◌||◌, List, [], ◌∷◌, ◌++◌, length, get_or, All, Contains, refl, ap, sym, ◌∙◌, arith, map, subst, inl, inr, ◌⊎◌, if◌then◌else◌, ◌==◌}
+use Rattle.std.specs.Prelude.{fold}
 use Rattle.std.specs.List.{list_any}
-use Rattle.std.specs.List.Sorted.{IsStrictlyIncreasing}
 use Rattle.std.proofs.lemmas.Bool.{false≢true}
 use Rattle.std.proofs.lemmas.List.{append-nil}
 use Rattle.std.proofs.lemmas.List.Elements.{filter_map-append, All-nil, All-cons, All-contains, Contains-append_right}
@@ -147,8 +146,8 @@ standing_is g n seeds certs made a b = elim (fold_cases certs a b Observer) [
   | inl has ↦ sym ((made.standing (of_pair a b (standing_among certs a b))).0 has).1
   | inr none ↦
       let unseen : IsGrade (g.standing a b) → ⊥ = λ grade.
-          let has : Contains certs (of_pair a b (g.standing a b)) = (made.standing (of_pair a b (g.standing a b))).1 (grade, refl) in
-          false≢true (sym (All-contains (λ c. is_of_pair a b c ≡ false) certs _ none.0 has) ∙ of_itself a b (g.standing a b)) in
+      let has : Contains certs (of_pair a b (g.standing a b)) = (made.standing (of_pair a b (g.standing a b))).1 (grade, refl) in
+      false≢true (sym (All-contains (λ c. is_of_pair a b c ≡ false) certs _ none.0 has) ∙ of_itself a b (g.standing a b)) in
       none.1 ∙ sym (observer_by (g.standing a b) unseen)
 ]
 
@@ -158,8 +157,8 @@ pub certificates-records : (g : Certificates) (names : List (List ℕ)) (seeds :
 certificates-records g names seeds certs made =
     let size : length (accounts (records names seeds certs)) ≡ g.accounts = ap length (accounts-records names seeds certs) ∙ sym made.size in
     let seeded : (a : ℕ) → is_seed (records names seeds certs) a ≡ g.is_seed a = λ a.
-        is_seed-records names seeds certs a
-        ∙ same_test (is_among a seeds) (g.is_seed a) (λ e. (made.seeded a).1 (among_contains a seeds e)) (λ e. contains_among a seeds ((made.seeded a).0 e)) in
+    is_seed-records names seeds certs a
+    ∙ same_test (is_among a seeds) (g.is_seed a) (λ e. (made.seeded a).1 (among_contains a seeds e)) (λ e. contains_among a seeds ((made.seeded a).0 e)) in
     let stands : (a b : ℕ) → standing (records names seeds certs) a b ≡ g.standing a b = λ a b.
-        ap (λ cs. standing_among cs a b) (certs-records names seeds certs) ∙ standing_is g (length names) seeds certs made a b in
+    ap (λ cs. standing_among cs a b) (certs-records names seeds certs) ∙ standing_is g (length names) seeds certs made a b in
     λ i. record { accounts = size i; is_seed = λ a. seeded a i; standing = λ a b. stands a b i }

@@ -1,8 +1,7 @@
 -- Each line of a canonical text's site adds its record.
-use Rattle.std.proofs.Common.{◌≡◌, ◌≢◌, ℕ, ◌+◌, ◌<◌, ◌≤◌, Bool, true, false, ◌&&◌, ◌||◌, not, cond, List, [], ◌∷◌, ◌++◌, length, get_or, Option, Some, None, Result, Ok, Err, All, AllPairs, IsTrue, refl, ap, sym, ◌∙◌, arith, nat_lt, nat_le, append_assoc, map, codes, subst, if◌then◌else◌, ◌==◌, eqb}
-use Rattle.std.specs.List.{list_any, list_all, join_with_byte}
+use Rattle.std.proofs.Common.{◌≡◌, ◌≢◌, ℕ, ◌<◌, ◌≤◌, true, false, List, [], ◌∷◌, ◌++◌, length, get_or, Some, None, Ok, All, refl, ap, sym, ◌∙◌, arith, nat_lt, nat_le, append_assoc, map, codes, ◌==◌}
+use Rattle.std.specs.List.{list_all, join_with_byte}
 use Rattle.std.specs.List.Sorted.{IsStrictlyIncreasing}
-use Rattle.std.specs.Str.{bytes_eq}
 use Rattle.std.proofs.lemmas.Bool.Decides.{nat_tests}
 use Rattle.std.proofs.lemmas.List.{map-append, append-nil, length_push}
 use Rattle.std.proofs.lemmas.List.Folds.{list_any_none}
@@ -10,22 +9,19 @@ use Rattle.std.proofs.lemmas.List.Kept.{AllPairs-from_increasing}
 use Rattle.trust_types.specs.declared.levels.Level.{Level}
 use Rattle.trust_types.specs.declared.graphs.Cert.{Cert}
 use Rattle.trust_types.specs.declared.records.Record.{Record}
-use Rattle.trust_types.specs.Levels.{level_name, level_of}
+use Rattle.trust_types.specs.Levels.{level_name}
 use Rattle.trust_types.specs.Names.{is_name, IsName}
-use Rattle.trust_types.specs.NameLists.{number_of, AreApart}
+use Rattle.trust_types.specs.NameLists.{number_of}
 use Rattle.trust_types.specs.Certs.{CanStand, IsCertAmong}
 use Rattle.trust_types.specs.Kept.{accounts, is_seed, certs_of, standing_count}
 use Rattle.trust_types.proofs.Indexing.{not_found}
-use Rattle.text_lines.specs.declared.faults.TextKind.{TextKind}
-use Rattle.text_lines.specs.declared.faults.TextKind.TheVariants.{BadLine, BadName, Twice, TooMany, Unknown, BadLevel, SelfCert}
-use Rattle.text_lines.specs.Words.{words, is_line, is_word}
-use Rattle.text_lines.specs.Steps.{◌>>=◌, or_fault, none_if}
+use Rattle.text_lines.specs.Words.{is_word}
 use Rattle.text_lines.specs.Reading.{reading}
-use Rattle.text_lines.proofs.Joining.{words-join, is_line-join, and_true, reading-append, reading-each}
+use Rattle.text_lines.proofs.Joining.{words-join, is_line-join, reading-append, reading-each}
 use Rattle.site_lines.specs.Site.{join, seed, cert, account_line, seed_line, cert_line, form, site_line}
 use Rattle.cut_check.specs.Line.{name_of}
 use Rattle.site_text.specs.Canonical.{account_words, seed_words, cert_words}
-use Rattle.site_text.proofs.Spelling.{AreNames, name_at, number_of-name, is_word-name, is_word-level, level_of-name}
+use Rattle.site_text.proofs.Spelling.{AreNames, name_at, number_of-name, level_of-name}
 use Rattle.site_text.proofs.Wording.{account-worded, seed-worded, cert-worded}
 use Rattle.site_text.proofs.Placed.{IsPlaced, placed, of_all, of_pairs}
 use Rattle.site_text.proofs.Recorded.{records, cert_record, accounts-records, certs-records, is_seed-records, is_among, standing_count-le}
@@ -69,7 +65,7 @@ account-step names before name rest are e =
     let named : IsName name = of_all IsName before name names at are.named in
     let known : accounts (records before [] []) ≡ before = accounts-records before [] [] in
     let new : number_of (accounts (records before [] [])) name ≡ None =
-        ap (λ ns. number_of ns name) known ∙ not_found before name (of_pairs (λ a b. a ≢ b) before name names at are.apart) in
+    ap (λ ns. number_of ns name) known ∙ not_found before name (of_pairs (λ a b. a ≢ b) before name names at are.apart) in
     let few : length (accounts (records before [] [])) < 100000 = rw known (omega (arith, are.few, at.within)) in
     site_line-join (records before [] []) (account_words name) (join name) (omega arith) (account-worded name named) (account-form (records before [] []) name named new few)
     ∙ ap Ok (records-account before name)
@@ -90,9 +86,9 @@ seed-step names seeds before a rest are within rises e =
     let below : a < length names = of_all (λ b. b < length names) before a seeds at within in
     let named : IsName (name_of names a) = name_at names are a below in
     let found : number_of (accounts (records names before [])) (name_of names a) ≡ Some a =
-        ap (λ ns. number_of ns (name_of names a)) (accounts-records names before []) ∙ number_of-name names are a below in
+    ap (λ ns. number_of ns (name_of names a)) (accounts-records names before []) ∙ number_of-name names are a below in
     let new : is_seed (records names before []) a ≡ false =
-        is_seed-records names before [] a ∙ apart_from before a (of_pairs (λ x y. x < y) before a seeds at (AllPairs-from_increasing seeds rises)) in
+    is_seed-records names before [] a ∙ apart_from before a (of_pairs (λ x y. x < y) before a seeds at (AllPairs-from_increasing seeds rises)) in
     site_line-join (records names before []) (seed_words names a) (seed a) (omega arith) (seed-worded names are a below) (seed-form (records names before []) (name_of names a) a named found new)
     ∙ ap Ok (records-seed names before a)
 
@@ -114,15 +110,15 @@ cert-step names seeds certs before c rest are stand e =
     let named_giver : IsName (name_of names c.from) = name_at names are c.from among.giver in
     let named_taker : IsName (name_of names c.to) = name_at names are c.to among.taker in
     let found_giver : number_of (accounts (records names seeds before)) (name_of names c.from) ≡ Some c.from =
-        ap (λ ns. number_of ns (name_of names c.from)) (accounts-records names seeds before) ∙ number_of-name names are c.from among.giver in
+    ap (λ ns. number_of ns (name_of names c.from)) (accounts-records names seeds before) ∙ number_of-name names are c.from among.giver in
     let found_taker : number_of (accounts (records names seeds before)) (name_of names c.to) ≡ Some c.to =
-        ap (λ ns. number_of ns (name_of names c.to)) (accounts-records names seeds before) ∙ number_of-name names are c.to among.taker in
+    ap (λ ns. number_of ns (name_of names c.to)) (accounts-records names seeds before) ∙ number_of-name names are c.to among.taker in
     let all : certs_of (records names seeds before ++ cert_record c ∷ []) ≡ before ++ c ∷ [] =
-        ap certs_of (records-cert names seeds before c) ∙ certs-records names seeds (before ++ c ∷ []) in
+    ap certs_of (records-cert names seeds before c) ∙ certs-records names seeds (before ++ c ∷ []) in
     let few : standing_count (certs_of (records names seeds before ++ cert_record c ∷ [])) ≤ 2000000 =
-        rw all (omega (arith, standing_count-le (before ++ c ∷ []), length_push before c, at.within, stand.few)) in
+    rw all (omega (arith, standing_count-le (before ++ c ∷ []), length_push before c, at.within, stand.few)) in
     site_line-join (records names seeds before) (cert_words names c) (cert_record c) (omega arith) (cert-worded names are c among)
-        (cert-form (records names seeds before) (name_of names c.from) (name_of names c.to) c.from c.to c.level named_giver named_taker found_giver found_taker among.others few)
+    (cert-form (records names seeds before) (name_of names c.from) (name_of names c.to) c.from c.to c.level named_giver named_taker found_giver found_taker among.others few)
     ∙ ap Ok (records-cert names seeds before c)
 
 -- The lines of a site, but for the first.
@@ -135,13 +131,13 @@ pub reading-site : (names : List (List ℕ)) (seeds : List ℕ) (certs : List Ce
     CanStand (length names) certs → reading site_line 2 [] (site_lines names seeds certs) ≡ Ok (records names seeds certs)
 reading-site names seeds certs are within rises stand =
     let accounts_are : reading site_line 2 [] (map (λ name. spaced (account_words name)) names) ≡ Ok (records names [] []) =
-        reading-each site_line 2 (λ name. spaced (account_words name)) (λ before. records before [] []) names (λ before name rest e. account-step names before name rest are e) in
+    reading-each site_line 2 (λ name. spaced (account_words name)) (λ before. records before [] []) names (λ before name rest e. account-step names before name rest are e) in
     let seeds_are : (n : ℕ) → reading site_line n (records names [] []) (map (λ a. spaced (seed_words names a)) seeds) ≡ Ok (records names seeds []) = λ n.
-        reading-each site_line n (λ a. spaced (seed_words names a)) (λ before. records names before []) seeds (λ before a rest e. seed-step names seeds before a rest are within rises e) in
+    reading-each site_line n (λ a. spaced (seed_words names a)) (λ before. records names before []) seeds (λ before a rest e. seed-step names seeds before a rest are within rises e) in
     let certs_are : (n : ℕ) → reading site_line n (records names seeds []) (map (λ c. spaced (cert_words names c)) certs) ≡ Ok (records names seeds certs) = λ n.
-        reading-each site_line n (λ c. spaced (cert_words names c)) (λ before. records names seeds before) certs (λ before c rest e. cert-step names seeds certs before c rest are stand e) in
+    reading-each site_line n (λ c. spaced (cert_words names c)) (λ before. records names seeds before) certs (λ before c rest e. cert-step names seeds certs before c rest are stand e) in
     let front : reading site_line 2 [] (map (λ name. spaced (account_words name)) names ++ map (λ a. spaced (seed_words names a)) seeds) ≡ Ok (records names seeds []) =
-        reading-append site_line 2 [] (records names [] []) (map (λ name. spaced (account_words name)) names) (map (λ a. spaced (seed_words names a)) seeds) accounts_are
-        ∙ seeds_are _ in
+    reading-append site_line 2 [] (records names [] []) (map (λ name. spaced (account_words name)) names) (map (λ a. spaced (seed_words names a)) seeds) accounts_are
+    ∙ seeds_are _ in
     reading-append site_line 2 [] (records names seeds []) (map (λ name. spaced (account_words name)) names ++ map (λ a. spaced (seed_words names a)) seeds) (map (λ c. spaced (cert_words names c)) certs) front
     ∙ certs_are _

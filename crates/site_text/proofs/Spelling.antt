@@ -1,6 +1,5 @@
 -- What is written in a word is a word, and is read again as it was.
-use Rattle.std.proofs.Common.{◌≡◌, ◌≢◌, ℕ, ◌+◌, ◌<◌, ◌≤◌, ◌^◌, Bool, true, false, ◌&&◌, ◌||◌, if◌then◌else◌, ◌==◌, not, cond, List, [], ◌∷◌, ◌++◌, length, get_or, Option, Some, None, All, AllPairs, IsTrue, refl, ap, sym, ◌∙◌, arith, nat_lt, map, decimal, codes, subst}
-use Rattle.std.specs.Prelude.{position}
+use Rattle.std.proofs.Common.{◌≡◌, ◌≢◌, ℕ, ◌<◌, ◌≤◌, ◌^◌, Bool, true, false, if◌then◌else◌, ◌==◌, cond, List, [], ◌∷◌, length, get_or, Some, None, All, refl, arith, nat_lt, decimal, codes, subst}
 use Rattle.std.specs.List.{list_all, position_or_len}
 use Rattle.std.specs.Str.{bytes_eq}
 use Rattle.std.proofs.lemmas.Bool.{false≢true}
@@ -16,7 +15,6 @@ use Rattle.trust_types.specs.Names.{is_name, is_name_byte, IsName}
 use Rattle.trust_types.specs.NameLists.{number_of, AreApart}
 use Rattle.trust_types.specs.Lines.{place}
 use Rattle.text_lines.specs.Words.{is_word, is_graphic}
-use Rattle.text_lines.specs.Numbers.{number}
 use Rattle.text_lines.proofs.Decimals.{number-decimal}
 use Rattle.text_lines.proofs.Joining.{both, and_true}
 use Rattle.claim_lines.specs.Claim.{is_dash, is_node, node_of, units_of}
@@ -76,8 +74,8 @@ pub number_of-name : (names : List (List ℕ)) → AreNames names → (a : ℕ) 
 number_of-name names are a below =
     let at : position_or_len (λ other. bytes_eq other (name_of names a)) names ≡ a =
     position_or_len_is (λ other. bytes_eq other (name_of names a)) names a [] (omega arith)
-        (λ k before. unequal (get_or names k []) (get_or names a []) (bytes_eq (get_or names k []) (get_or names a [])) refl (are.apart k a [] before below))
-        (λ _. (bytes_eq-Decides (name_of names a) (name_of names a)).1 refl) in
+    (λ k before. unequal (get_or names k []) (get_or names a []) (bytes_eq (get_or names k []) (get_or names a [])) refl (are.apart k a [] before below))
+    (λ _. (bytes_eq-Decides (name_of names a) (name_of names a)).1 refl) in
     found_by _ (length names) a at below
 
 -- Nodes among the accounts.

@@ -1,5 +1,5 @@
 -- Each line of a canonical text is made of words.
-use Rattle.std.proofs.Common.{◌≡◌, ℕ, ◌<◌, ◌≤◌, ◌^◌, Bool, true, ◌&&◌, List, [], ◌∷◌, ◌++◌, length, get_or, All, refl, arith, map, codes, decimal}
+use Rattle.std.proofs.Common.{◌≡◌, ℕ, ◌<◌, ◌≤◌, ◌^◌, Bool, true, List, [], ◌∷◌, length, get_or, All, refl, arith, map, decimal}
 use Rattle.std.specs.List.{list_all}
 use Rattle.std.proofs.lemmas.Grind.{get_or_default_zero}
 use Rattle.std.proofs.lemmas.List.Elements.{All-head, All-tail}
@@ -77,4 +77,4 @@ pub all-worded : {X : Type 0} (words_of : X → List (List ℕ)) (xs : List X) �
 all-worded words_of [] each = refl
 all-worded words_of (x ∷ xs) each =
     and_true (all_words (words_of x)) (list_all all_words (map words_of xs)) (All-head (λ x. IsWorded (words_of x)) x xs each)
-        (all-worded words_of xs (All-tail (λ x. IsWorded (words_of x)) x xs each))
+    (all-worded words_of xs (All-tail (λ x. IsWorded (words_of x)) x xs each))

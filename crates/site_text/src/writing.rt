@@ -170,7 +170,12 @@ fn put_edge(text: &mut Vec<u8>, names: &NameIndex, edge: &FlowLine) -> Result<()
 }
 
 /// A line of that keyword for each node.
-fn put_nodes(text: &mut Vec<u8>, keyword: &[u8], names: &NameIndex, nodes: &[Node]) -> Result<(), NoMemory>
+fn put_nodes(
+    text: &mut Vec<u8>,
+    keyword: &[u8],
+    names: &NameIndex,
+    nodes: &[Node],
+) -> Result<(), NoMemory>
     requires { All (λ x. place x ≤ length names.now) nodes.now }
     ensures { OnOk result (text.new.items ≡ text.old.items ++ lines_for (λ x. keyword.now ∷ node_name names.now x ∷ []) nodes.now) }
 {
