@@ -1,3 +1,5 @@
+mod Parting
+mod Composing
 mod Spelling
 mod Wording
 mod Recorded
@@ -9,3 +11,4 @@ mod ReadingBack
 mod Written
 mod GraphLists
 mod Texted
+mod Reaching

@@ -97,6 +97,25 @@ pub record Written : Type 0 where
   pub units : AreLinesOf f lines
   pub sides : AreSidesBelow side (g.accounts + 1) pass full
 
+-- those that a reader of the graph's accounts, of its edges and of its nodes wrote
+abbrev pub written : {g : Certificates} {level : Level} {table : List ℕ} {f : Flow} {side : Sides} {served : List ℕ} {lines : List FlowLine} {pass full : List Node} (n : ℕ) → n ≡ g.accounts →
+    IsSolved g level table f side → ListsBelow (λ a. a) (IsServed n f) n served → AreLinesOf f lines → AreSidesBelow side (n + 1) pass full → Written
+written {g} {level} {table} {f} {side} {served} {lines} {pass} {full} n all solved serves units sides = record {
+  g = g;
+  level = level;
+  table = table;
+  f = f;
+  side = side;
+  served = served;
+  lines = lines;
+  pass = pass;
+  full = full;
+  solved = solved;
+  serves = subst (λ (m : ℕ). ListsBelow (λ (a : ℕ). a) (IsServed m f) m served) all serves;
+  units = units;
+  sides = subst (λ (m : ℕ). AreSidesBelow side (m + 1) pass full) all sides;
+}
+
 abbrev pub lists : Written → Lists
 lists w = record { served = w.served; flow = w.lines; pass = w.pass; full = w.full }
 

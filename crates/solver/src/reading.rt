@@ -1,12 +1,9 @@
 //! The roster that a solved workspace has found.
 
-ghost use Rattle.std.specs.Prelude.{ℕ, ◌≡◌, ◌<◌, ◌+◌, IfOk};
-ghost use Rattle.trust_types.specs.declared.accounts.Node.TheVariants.{Root, Account};
-ghost use Rattle.trust_types.specs.declared.flows.Side.TheVariants.{Pass, Full};
+ghost use Rattle.std.specs.Prelude.{◌≡◌, ◌<◌, ◌+◌, IfOk};
 ghost use Rattle.trust_types.specs.Levels.{IsGrade};
 ghost use Rattle.trust_types.specs.Flow.{IsServed};
 ghost use Rattle.trust_types.specs.Layout.{degree, given};
-ghost use Rattle.trust_types.specs.Lines.{place};
 ghost use Rattle.trust_types.specs.Proven.{IsProven};
 ghost use Rattle.trust_types.specs.Rows.{GivesEachOnce};
 ghost use Rattle.frozen.specs.Revision.{certificates};

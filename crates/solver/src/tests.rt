@@ -100,6 +100,9 @@ fn as_many_as_can_be_served(rt: HostRuntime) -> Result<(), Fail> {
     Ok(())
 }
 
+/// Threads can share what is published.
+fn is_shared<T: Send + Sync>(_value: &T) {}
+
 #[test]
 fn the_highest_level_is_held(rt: HostRuntime) -> Result<(), Fail> {
     let frozen = site(rt.alloc(), Shape::Crowd, &[10, 4, 2, 1], 7)?;
@@ -109,6 +112,7 @@ fn the_highest_level_is_held(rt: HostRuntime) -> Result<(), Fail> {
         revision: frozen.revision(),
         candidate,
     };
+    is_shared(&publication);
     assert_eq!(rt; publication.level_of(AccountNo(2)), Level::Master);
     assert_eq!(rt; publication.level_of(AccountNo(3)), Level::Observer);
     Ok(())

@@ -84,7 +84,7 @@ unfolding reading
 append_by step n m s x xs ys (Err kind) e ih = rw (e, reading) refl
 append_by step n m s x xs ys (Ok next) e ih = rw (e, reading) (ih next)
 
-append_at : {S : Type 0} (step : S → List ℕ → Result S TextKind) (n m : ℕ) (s : S) (xs ys : List (List ℕ)) → m ≡ n + length xs →
+pub append_at : {S : Type 0} (step : S → List ℕ → Result S TextKind) (n m : ℕ) (s : S) (xs ys : List (List ℕ)) → m ≡ n + length xs →
     reading step n s (xs ++ ys) ≡ (reading step n s xs >>= λ t. reading step m t ys)
 unfolding reading
 append_at step n m s [] ys e =

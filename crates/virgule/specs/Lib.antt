@@ -1,4 +1,4 @@
 pub mod Commands
 pub mod Outcomes
+pub mod Answers
 pub mod Runs
-pub mod Reports

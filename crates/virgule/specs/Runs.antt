@@ -3,15 +3,14 @@ use Rattle.std.specs.Prelude.{ℕ, ◌≡◌, ◌≤◌, ◌+◌, ◌⊎◌, Lis
 use Rattle.std.specs.Io.KnownBytes.{append_known}
 use Rattle.outside.specs.Bytes.{TakesAll, TakesCount, TakesAtMost, AppendsPart}
 use Rattle.outside.specs.Causes.{Rose, one_more}
-use Rattle.cut_check.specs.declared.proofs.Proof.{Proof}
 use Rattle.virgule.specs.declared.command.Command.{Command}
 use Rattle.virgule.specs.declared.status.Status.{Status}
 use Rattle.virgule.specs.declared.status.Status.TheVariants.{WriteFault}
 use Rattle.virgule.specs.declared.outcome.Outcome.{Outcome}
-use Rattle.virgule.specs.declared.outcome.Outcome.TheVariants.{Judged, Misused, Unreadable, TooLong, Unread, OutOfMemory}
+use Rattle.virgule.specs.declared.outcome.Outcome.TheVariants.{Answered, Misused, TooLong, Unread, OutOfMemory}
 use Rattle.virgule.specs.Commands.{limit_of}
 use Rattle.virgule.specs.Outcomes.{status_of, text_of}
-use Rattle.virgule.specs.Reports.{IsReport}
+use Rattle.virgule.specs.Answers.{Answers}
 
 -- A source, by the bytes that it has left where it tells them, and by its counts of faults and of ends.
 pub record Input : Type 0 where
@@ -33,10 +32,9 @@ pub record IsWholeInput (limit : ℕ) (before now : Input) (bytes : List ℕ) : 
 
 -- What a command comes to, by what it took from the source.
 abbrev pub Comes : Command → Input → Input → Outcome → Type 0
-Comes command before now (Judged report) =
-    (bytes : List ℕ) × IsWholeInput (limit_of command) before now bytes × ((proof : Proof) × IsReport proof report)
+Comes command before now (Answered answer) =
+    (bytes : List ℕ) × IsWholeInput (limit_of command) before now bytes × Answers command bytes answer
 Comes command before now Misused = ⊥
-Comes command before now Unreadable = (bytes : List ℕ) × IsWholeInput (limit_of command) before now bytes
 Comes command before now TooLong = TakesCount before.left now.left (limit_of command + 1) × (now.faults ≡ before.faults)
 Comes command before now Unread = TakesAtMost before.left now.left (limit_of command) × Rose before.faults now.faults
 Comes command before now OutOfMemory = TakesAtMost before.left now.left (limit_of command) × (now.faults ≡ before.faults)

@@ -1,15 +1,14 @@
 //! The site engine as a program.
 #![tactic(auto)]
 
-mod canonical;
+mod answers;
 mod command;
 mod outcome;
-mod reports;
+mod rosters;
 mod run;
 mod status;
 #[cfg(test)]
 mod tests;
-mod unread;
 
 use outside::{StdSink, StdSource};
 use run::run;

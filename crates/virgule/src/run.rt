@@ -1,20 +1,17 @@
 //! A run of the program.
 
-ghost use Rattle.std.specs.Prelude.{◌≡◌, ℕ, map, IfOk};
-ghost use Rattle.cut_check.specs.declared.proofs.Proof.{Proof};
+ghost use Rattle.std.specs.Prelude.{map};
 ghost use Rattle.virgule.specs.declared.outcome.Outcome.{Outcome};
-ghost use Rattle.virgule.specs.Commands.{command_of};
-ghost use Rattle.virgule.specs.Reports.{IsReport};
+ghost use Rattle.virgule.specs.Commands.{command_of, AsksGrades};
 ghost use Rattle.virgule.specs.Runs.{Input, Output, Comes, ComesTo, IsTold};
 
-use crate::canonical::read_proof;
+use crate::answers::answer;
 use crate::command::Command;
-use crate::outcome::{Outcome, Report};
-use crate::reports::report;
+use crate::outcome::Outcome;
 use crate::status::Status;
-use crate::unread::Unread;
 use outside::{InputFault, Sink, Source, read_to_end, write_all};
 use std::alloc::Global;
+use trust_types::NoMemory;
 
 /// Does what the words ask, over the source and the sink, and answers how it ended. It reads its input to the end
 /// before it writes, and always returns.
@@ -42,26 +39,18 @@ pub fn run<S: Source, W: Sink>(
 
 /// What a command comes to.
 fn carry_out<S: Source>(alloc: Global, command: Command, source: &mut S) -> Outcome
+    requires { AsksGrades command }
     ensures { let before : Input = record { left = S.left source.old; faults = S.faults source.old; ends = S.ends source.old } in
         let now : Input = record { left = S.left source.new; faults = S.faults source.new; ends = S.ends source.new } in
         Comes command before now result }
 {
     match read_to_end(alloc, source, command.limit()) {
-        Ok(bytes) => match judge(alloc, &bytes) {
-            Ok(report) => Outcome::Judged(report),
-            Err(Unread::NotAProof) => Outcome::Unreadable,
-            Err(Unread::NoMemory) => Outcome::OutOfMemory,
+        Ok(bytes) => match answer(alloc, command, &bytes) {
+            Ok(answer) => Outcome::Answered(answer),
+            Err(NoMemory) => Outcome::OutOfMemory,
         },
         Err(InputFault::TooLong) => Outcome::TooLong,
         Err(InputFault::Failed) => Outcome::Unread,
         Err(InputFault::NoMemory) => Outcome::OutOfMemory,
     }
-}
-
-/// What is told of the proof that the bytes are.
-fn judge(alloc: Global, bytes: &[u8]) -> Result<Report, Unread>
-    ensures { IfOk result (λ report. (proof : Proof) × IsReport proof report) }
-{
-    let proof = read_proof(alloc, bytes)?;
-    Ok(report(alloc, &proof)?)
 }

@@ -1,0 +1,216 @@
+//! Texts of sites and of proofs, read.
+
+ghost use Rattle.std.specs.Prelude.{◌≡◌, ◌+◌, ◌≤◌, ℕ, List, [], ◌∷◌, Ok, Err, Option, Some, IfOk, IfErr, OnOk, IfSome, IsTrue, length, option_map};
+ghost use Rattle.trust_types.specs.Levels.{IsGrade};
+ghost use Rattle.text_lines.specs.Words.{lines};
+ghost use Rattle.text_lines.specs.Reading.{reading, ReadsAll};
+ghost use Rattle.site_lines.specs.Site.{site_line, caps_line};
+ghost use Rattle.claim_lines.specs.Claim.{Claim, nothing, claim_line, has_root};
+ghost use Rattle.claim_lines.specs.Drafts.{IsClaimDraft, ArePartsOf as AreClaimed, ArePartsAmong};
+ghost use Rattle.site_lines.specs.Drafts.{ArePartsOf};
+ghost use Rattle.trust_types.specs.declared.records.Record.{Record};
+ghost use Rattle.trust_types.specs.Kept.{accounts};
+ghost use Rattle.site_text.specs.Site.{site, proof, site_part, claim_part, claim_of};
+ghost use Rattle.site_text.specs.View.{IsFrozenOf, IsProofOf};
+ghost use Rattle.site_text.specs.Faults.{fault_of};
+ghost use Rattle.site_text.specs.Parts.{IsPart, IsClaimed, claim_from, claim_number, table_of};
+
+use crate::faults::SiteFault;
+use claim_lines::{ClaimDraft, ClaimParts, is_level_line, read_level};
+use cut_check::Proof;
+use frozen::Frozen;
+use site_lines::{SiteDraft, SiteParts, read_table};
+use std::alloc::Global;
+use std::sync::Arc;
+use text_lines::{LineFault, Lines, TextFault, TextKind};
+use trust_types::{Caps, CertList, Level, NameIndex, NoMemory};
+
+/// The lines of a site, read, and the `level` line that ended them, where one did.
+#[derive(Drop)]
+struct SitePart<'a> {
+    draft: SiteDraft,
+    level_line: Option<&'a [u8]>,
+}
+
+/// What is claimed of a site, read.
+#[derive(Drop)]
+struct Claimed {
+    level: Level,
+    draft: ClaimDraft,
+}
+
+/// Reads a text's first line, which is its table.
+fn read_first(text: &mut Lines) -> Result<Caps, SiteFault>
+    requires start { text.old.number ≡ 0 }
+    ensures read { IfOk result (λ caps. (first : List ℕ) × (lines text.old.bytes ≡ first ∷ lines text.new.bytes) × (caps_line first ≡ Ok caps)) }
+    ensures refused { IfErr result (λ refusal. IfSome (fault_of refusal) (λ fault. table_of (lines text.old.bytes) ≡ Err fault)) }
+    ensures number { OnOk result (text.new.number ≡ 1) }
+{
+    let Some(line) = text.next_line() else {
+        return Err(SiteFault::Text(TextFault {
+            line: 1,
+            kind: TextKind::BadLine,
+        }));
+    };
+    match read_table(line) {
+        Ok(caps) => Ok(caps),
+        Err(kind) => Err(SiteFault::Text(TextFault { line: 1, kind })),
+    }
+}
+
+/// Reads the lines of a site behind the first, up to the first `level` line.
+fn read_site_part<'a>(alloc: Global, text: &mut Lines<'a>) -> Result<SitePart<'a>, SiteFault>
+    requires first { text.old.number ≡ 1 }
+    ensures read { ReadsAll IsPart fault_of result (reading site_line 2 [] (site_part (lines text.old.bytes))) }
+    ensures left { IfOk result (λ part. claim_part (lines text.old.bytes) ≡ claim_from (option_map (λ line. line.now) part.level_line) (lines text.new.bytes)) }
+    ensures number { IfOk result (λ part. claim_number (option_map (λ line. line.now) part.level_line) text.new.number ≡ length (site_part (lines text.old.bytes)) + 2) }
+{
+    let mut draft = SiteDraft::new(alloc);
+    while let Some(line) = text.next_line() {
+        if is_level_line(line) {
+            return Ok(SitePart {
+                draft,
+                level_line: Some(line),
+            });
+        }
+        match draft.read(line) {
+            Ok(()) => {}
+            Err(fault) => return Err(SiteFault::at_line(text.number(), fault)),
+        }
+    }
+    Ok(SitePart {
+        draft,
+        level_line: None,
+    })
+}
+
+/// Reads the lines of a claim behind its first.
+fn read_claim_lines(
+    alloc: Global,
+    text: &mut Lines,
+    names: &NameIndex,
+) -> Result<ClaimDraft, SiteFault>
+    requires few { length names.now ≤ 100000 }
+    ensures read { ReadsAll (IsClaimDraft (length names.now)) fault_of result (reading (claim_line names.now) (text.old.number + 1) nothing (lines text.old.bytes)) }
+    ensures number { OnOk result (text.new.number ≡ text.old.number + length (lines text.old.bytes)) }
+{
+    let mut draft = ClaimDraft::new(alloc, names.count() as u32)?;
+    while let Some(line) = text.next_line() {
+        match draft.read(names, line) {
+            Ok(()) => {}
+            Err(fault) => return Err(SiteFault::at_line(text.number(), fault)),
+        }
+    }
+    Ok(draft)
+}
+
+/// Reads what is claimed of a site: the `level` line, which was the last one read, and those behind it.
+fn read_claim(
+    alloc: Global,
+    text: &mut Lines,
+    level_line: &[u8],
+    names: &NameIndex,
+) -> Result<Claimed, SiteFault>
+    requires few { length names.now ≤ 100000 }
+    ensures read { ReadsAll (IsClaimed (length names.now)) fault_of result (claim_of names.now text.old.number (level_line.now ∷ lines text.old.bytes)) }
+    ensures grade { IfOk result (λ claimed. IsGrade claimed.level) }
+    ensures root { IfOk result (λ claimed. (c : Claim) → IsClaimDraft (length names.now) claimed.draft c → IsTrue (has_root c)) }
+{
+    let level = match read_level(level_line) {
+        Ok(level) => level,
+        Err(kind) => {
+            return Err(SiteFault::Text(TextFault {
+                line: text.number(),
+                kind,
+            }));
+        }
+    };
+    let draft = read_claim_lines(alloc, text, names)?;
+    if !draft.has_root() {
+        return Err(SiteFault::Text(TextFault {
+            line: text.number() + 1,
+            kind: TextKind::MissingRoot,
+        }));
+    }
+    Ok(Claimed { level, draft })
+}
+
+/// The proof of these parts: a site's, and those of what is claimed of it.
+fn proof_of(
+    alloc: Global,
+    caps: Caps,
+    site: SiteParts,
+    level: Level,
+    claim: ClaimParts,
+) -> Result<Proof, NoMemory>
+    requires grade { IsGrade level }
+    requires parts { (k : List Record) × (c : Claim) × ArePartsOf k site × AreClaimed c claim × ArePartsAmong (length (accounts k)) claim × IsTrue (has_root c) }
+    ensures { (k : List Record) (c : Claim) → ArePartsOf k site → AreClaimed c claim →
+        IfOk result (λ p. IsProofOf (record { site = record { table = caps; records = k }; level = level; claim = c }) p) }
+{
+    let graph = CertList::of(alloc, site.names.len() as u32, site.seeds, site.certs)?;
+    Ok(Proof {
+        caps,
+        names: site.names,
+        graph,
+        level,
+        flow: claim.flow,
+        pass: claim.pass,
+        full: claim.full,
+    })
+}
+
+/// Reads a site text: the graph of just that site, which is frozen. Its revision is the number of the text's `account`, `seed`
+/// and `cert` lines. It goes once over the text, and takes memory for its accounts and certificates.
+///
+/// # Errors
+/// [`SiteFault::Text`] exactly where the bytes are no site text, with the first bad line; [`SiteFault::NoMemory`] where memory
+/// ran out.
+pub fn read_site(alloc: Global, bytes: &[u8]) -> Result<Arc<Frozen>, SiteFault>
+    requires few { length bytes.now ≤ 268435456 }
+    ensures { ReadsAll (λ f s. IsFrozenOf s f.value) fault_of result (site bytes.now) }
+{
+    let mut text = Lines::of(bytes);
+    let caps = read_first(&mut text)?;
+    let part = read_site_part(alloc, &mut text)?;
+    if let Some(_) = part.level_line {
+        return Err(SiteFault::Text(TextFault {
+            line: text.number(),
+            kind: TextKind::BadLine,
+        }));
+    }
+    let revision = text.number() - 1;
+    let site = part.draft.finish(alloc)?;
+    Ok(Frozen::of(
+        alloc,
+        revision as u32,
+        caps,
+        site.names,
+        site.seeds,
+        site.certs,
+    )?)
+}
+
+/// Reads a proof text: just that proof, with the lines of its flow in rising order. It goes once over the text, and takes
+/// memory for what the text says.
+///
+/// # Errors
+/// [`SiteFault::Text`] exactly where the bytes are no proof text, with the first bad line; [`SiteFault::NoMemory`] where memory
+/// ran out.
+pub fn read_proof(alloc: Global, bytes: &[u8]) -> Result<Proof, SiteFault>
+    ensures { ReadsAll (λ p t. IsProofOf t p) fault_of result (proof bytes.now) }
+{
+    let mut text = Lines::of(bytes);
+    let caps = read_first(&mut text)?;
+    let part = read_site_part(alloc, &mut text)?;
+    let Some(level_line) = part.level_line else {
+        return Err(SiteFault::Text(TextFault {
+            line: text.number() + 1,
+            kind: TextKind::MissingLevel,
+        }));
+    };
+    let claimed = read_claim(alloc, &mut text, level_line, part.draft.names())?;
+    let site = part.draft.finish(alloc)?;
+    let claim = claimed.draft.finish(alloc)?;
+    Ok(proof_of(alloc, caps, site, claimed.level, claim)?)
+}
