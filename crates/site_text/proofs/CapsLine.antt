@@ -1,22 +1,17 @@
 -- A site's first line is read as its table.
-use Rattle.std.proofs.Common.{◌≡◌, ℕ, ◌+◌, ◌-◌, ◌<◌, ◌≤◌, ◌^◌, Bool, true, false, ◌&&◌, List, [], ◌∷◌, length, get_or, Result, Ok, Err, All, refl, ap, sym, subst, ◌∙◌, arith, nat_lt, map, codes, decimal, eqb, ltb, if◌then◌else◌, ◌==◌}
-use Rattle.std.specs.List.{list_any, list_all, join_with_byte}
+use Rattle.std.proofs.Common.{◌≡◌, ℕ, ◌-◌, ◌≤◌, true, false, List, [], ◌∷◌, length, get_or, Ok, All, refl, arith, nat_lt, map, codes, decimal, ◌==◌}
+use Rattle.std.specs.List.{list_any, join_with_byte}
 use Rattle.std.proofs.lemmas.Bool.Decides.{nat_tests}
 use Rattle.std.specs.Str.{bytes_eq}
 use Rattle.std.proofs.lemmas.Fmt.{decimal_digit}
 use Rattle.std.proofs.lemmas.Grind.{get_or_default_zero}
-use Rattle.std.proofs.lemmas.List.{length-map}
 use Rattle.std.proofs.lemmas.List.Elements.{All-head, All-tail}
-use Rattle.std.proofs.lemmas.List.Folds.{list_any_none, list_all-map}
-use Rattle.trust_types.specs.Tables.{IsTable, table, rises}
+use Rattle.std.proofs.lemmas.List.Folds.{list_any_none}
+use Rattle.trust_types.specs.Tables.{IsTable, table}
 use Rattle.trust_types.proofs.TableTests.{list_any-IsTable, rises-IsTable}
-use Rattle.text_lines.specs.Words.{words, is_line, is_word}
-use Rattle.text_lines.specs.Numbers.{number}
-use Rattle.text_lines.specs.Steps.{◌>>=◌, or_fault}
-use Rattle.text_lines.specs.declared.faults.TextKind.{TextKind}
-use Rattle.text_lines.proofs.Decimals.{number-decimal, is_word-decimal}
-use Rattle.text_lines.proofs.Joining.{words-join, is_line-join, and_true}
-use Rattle.site_lines.specs.Site.{numbers, judged, table_in, caps_form, caps_line}
+use Rattle.text_lines.proofs.Decimals.{number-decimal}
+use Rattle.text_lines.proofs.Joining.{words-join, is_line-join}
+use Rattle.site_lines.specs.Site.{numbers, judged, table_in, caps_line}
 use Rattle.site_text.specs.Canonical.{caps_words}
 use Rattle.site_text.proofs.Wording.{IsSmall, small-IsTable, IsWorded, caps-worded}
 

@@ -1,29 +1,25 @@
 -- Each line of a canonical text's claim adds its line of the flow, or its node.
-use Rattle.std.proofs.Common.{◌≡◌, ◌≢◌, ℕ, ◌+◌, ◌<◌, ◌≤◌, ◌^◌, Bool, true, false, ◌&&◌, ◌||◌, not, cond, List, [], ◌∷◌, ◌++◌, length, get_or, Option, Some, None, Result, Ok, Err, All, AllPairs, Contains, IsTrue, refl, ap, sym, ◌∙◌, arith, nat_lt, nat_le, map, codes, subst, if◌then◌else◌, ◌==◌, decimal}
+use Rattle.std.proofs.Common.{◌≡◌, ◌≢◌, ℕ, ◌<◌, ◌≤◌, ◌^◌, Bool, true, false, List, [], ◌∷◌, ◌++◌, length, get_or, Some, Ok, All, Contains, refl, ap, ◌∙◌, arith, map, codes, subst, decimal}
 use Rattle.std.specs.List.{list_any, list_all, join_with_byte}
 use Rattle.std.proofs.lemmas.Bool.Decides.{nat_tests}
 use Rattle.std.proofs.lemmas.List.Elements.{Contains-get_or}
 use Rattle.std.proofs.lemmas.List.Folds.{list_any_none}
-use Rattle.trust_types.specs.declared.levels.Level.{Level}
 use Rattle.trust_types.specs.declared.accounts.Node.{Node}
 use Rattle.trust_types.specs.declared.accounts.Node.TheVariants.{Root, Account}
 use Rattle.trust_types.specs.declared.flows.FlowLine.{FlowLine}
-use Rattle.trust_types.specs.Names.{is_name, IsName}
+use Rattle.trust_types.specs.Names.{is_name}
 use Rattle.trust_types.specs.NameLists.{number_of}
 use Rattle.trust_types.specs.Lines.{place, same_node, is_before}
 use Rattle.trust_types.specs.Proven.{Lists, AreInOrder}
-use Rattle.text_lines.specs.declared.faults.TextKind.{TextKind}
-use Rattle.text_lines.specs.declared.faults.TextKind.TheVariants.{BadLine, BadName, BadNumber, Twice, Unknown}
-use Rattle.text_lines.specs.Words.{words, is_line, is_word}
-use Rattle.text_lines.specs.Steps.{◌>>=◌, or_fault, none_if}
+use Rattle.text_lines.specs.Words.{is_word}
+use Rattle.text_lines.specs.Steps.{or_fault}
 use Rattle.text_lines.specs.Reading.{reading}
-use Rattle.text_lines.proofs.Decimals.{is_word-decimal}
 use Rattle.text_lines.proofs.Joining.{words-join, is_line-join, reading-append, reading-each}
 use Rattle.claim_lines.specs.Claim.{Claim, nothing, is_node, node_of, units_of, is_of_pair, is_placed, flow_line, placed_node, pass_line, full_line, claim_form, claim_line}
 use Rattle.cut_check.specs.Line.{name_of, node_name}
 use Rattle.roster_form.specs.LevelRosters.{AreAmong}
 use Rattle.site_text.specs.Canonical.{flow_words, pass_words, full_words}
-use Rattle.site_text.proofs.Spelling.{AreNames, name_at, number_of-name, is_word-name, node_word, is_node-name, node_of-name, units_of-decimal}
+use Rattle.site_text.proofs.Spelling.{AreNames, name_at, number_of-name, is_node-name, node_of-name, units_of-decimal}
 use Rattle.site_text.proofs.Wording.{flow-worded, pass-worded, full-worded}
 use Rattle.site_text.proofs.Placed.{IsPlaced, placed, of_all, of_pairs}
 

@@ -1,14 +1,11 @@
 -- The seeds and certificates that a graph's readers give are lists of which it is made.
-use Rattle.std.proofs.Common.{◌≡◌, ◌≢◌, ℕ, zero, suc, ◌+◌, ◌-◌, ◌<◌, ◌≤◌, Bool, true, false, cond, List, [], ◌∷◌, ◌++◌, length, take, get_or, map, refl, ap, sym, subst, ◌∙◌, ◌⊎◌, inl, inr, arith, add-one, All, AllPairs, Contains, IsTrue}
-use Rattle.std.specs.List.{filter, flat_map, range_with_len}
+use Rattle.std.proofs.Common.{◌≡◌, ℕ, zero, suc, ◌+◌, ◌-◌, ◌<◌, ◌≤◌, Bool, true, false, List, [], ◌∷◌, ◌++◌, length, get_or, refl, ap, sym, subst, ◌∙◌, ◌⊎◌, inl, inr, arith, add-one, AllPairs, Contains, IsTrue}
 use Rattle.std.specs.List.Sorted.{IsStrictlyIncreasing}
 use Rattle.std.proofs.lemmas.Bool.{cases_lt, cases_eq, false≢true}
 use Rattle.std.proofs.lemmas.List.{length-append, get_or_append_left, get_or-append_right}
-use Rattle.std.proofs.lemmas.List.Elements.{All-nil, All-append, All-contains, filter_passes, Contains-append_left, Contains-append_right, Contains-append_cases, Contains-push, Contains-get_or}
+use Rattle.std.proofs.lemmas.List.Elements.{All-contains, filter_passes, Contains-append_left, Contains-append_right, Contains-append_cases, Contains-push, Contains-get_or}
 use Rattle.std.proofs.lemmas.List.FromFn.{length-range_with_len, get_or-range_with_len, length-map-range_with_len, get_or-map-range_with_len}
 use Rattle.std.proofs.lemmas.List.Kept.{IsStrictlyIncreasing-filter}
-use Rattle.trust_types.specs.declared.levels.Level.{Level}
-use Rattle.trust_types.specs.declared.levels.Level.TheVariants.{Observer}
 use Rattle.trust_types.specs.declared.graphs.Cert.{Cert}
 use Rattle.trust_types.specs.Levels.{IsGrade}
 use Rattle.trust_types.specs.Graph.{Certificates}
@@ -63,7 +60,7 @@ pairs-append {X} R xs ys of_xs of_ys across i j d before inside =
           rw (get_or-append_right xs ys (length xs) j d refl (omega arith)) (elim (cases_lt i (length xs)) [
             | inl i_left ↦
                 rw (get_or_append_left xs ys d i i_left)
-                    (across (get_or xs i d) (get_or ys (j - length xs) d) (Contains-get_or xs i d i_left) (Contains-get_or ys (j - length xs) d (omega arith)))
+                (across (get_or xs i d) (get_or ys (j - length xs) d) (Contains-get_or xs i d i_left) (Contains-get_or ys (j - length xs) d (omega arith)))
             | inr i_right ↦
                 rw (get_or-append_right xs ys (length xs) i d refl (omega arith)) (of_ys (i - length xs) (j - length xs) d (omega arith) (omega arith))
           ])
@@ -74,8 +71,8 @@ module _ (g : Certificates) (degree : ℕ → ℕ) (given : ℕ → ℕ → Cert
   length-certs zero = refl
   length-certs (suc n) =
       let step : length (certs_below degree given (n + 1)) ≡ length (certs_below degree given n) + degree n =
-          ap length (certs_more degree given n) ∙ length-append (certs_below degree given n) (first_given given n (degree n))
-          ∙ ap (λ m. length (certs_below degree given n) + m) (length-map-range_with_len (given n) 0 (degree n)) in
+      ap length (certs_more degree given n) ∙ length-append (certs_below degree given n) (first_given given n (degree n))
+      ∙ ap (λ m. length (certs_below degree given n) + m) (length-map-range_with_len (given n) 0 (degree n)) in
       rw add-one at step ∙ ap (λ m. m + degree n) (length-certs n)
 
   -- a certificate of an account's is one that it gives
@@ -129,12 +126,12 @@ module _ (g : Certificates) (degree : ℕ → ℕ) (given : ℕ → ℕ → Cert
   certs-rise each (suc n) within =
       let P : List Cert → Type 0 = λ certs. AllPairs IsBefore certs in
       subst P (sym (certs-suc n)) (pairs-append IsBefore (certs_below degree given n) (first_given given n (degree n)) (certs-rise each n (omega arith)) (given-rises each n (omega arith))
-        (λ x y has_x has_y.
-            let r = from-certs n x has_x in
-            let s = from-given n y has_y in
-            let giver_x : x.from ≡ r.0 = ap (λ (c : Cert). c.from) (sym r.4) ∙ each.giver r.0 r.1 (omega (arith, r.2)) r.3 in
-            let giver_y : y.from ≡ n = ap (λ (c : Cert). c.from) (sym s.2) ∙ each.giver n s.0 (omega arith) s.1 in
-            inl (omega (arith, r.2))))
+      (λ x y has_x has_y.
+      let r = from-certs n x has_x in
+      let s = from-given n y has_y in
+      let giver_x : x.from ≡ r.0 = ap (λ (c : Cert). c.from) (sym r.4) ∙ each.giver r.0 r.1 (omega (arith, r.2)) r.3 in
+      let giver_y : y.from ≡ n = ap (λ (c : Cert). c.from) (sym s.2) ∙ each.giver n s.0 (omega arith) s.1 in
+      inl (omega (arith, r.2))))
 
   -- What is known of a graph's readers: the certificates that they give are all that stand, and only accounts are seeds.
   pub record AreReaders : Type 0 where
@@ -174,7 +171,7 @@ module _ (g : Certificates) (degree : ℕ → ℕ) (given : ℕ → ℕ → Cert
       let found = are.each.complete c.from c.to within.0 within.1 grade in
       let giver : (given c.from found.0).from ≡ c.from = are.each.giver c.from found.0 within.0 found.1 in
       let level : (given c.from found.0).level ≡ c.level =
-          sym (are.each.stands c.from found.0 within.0 found.1) ∙ ap (λ b. g.standing c.from b) found.2 ∙ stands.1 in
+      sym (are.each.stands c.from found.0 within.0 found.1) ∙ ap (λ b. g.standing c.from b) found.2 ∙ stands.1 in
       let same : given c.from found.0 ≡ c = λ i. record { from = giver i; to = found.2 i; level = level i } in
       let P : Cert → Type 0 = λ d. Contains (certs_below degree given g.accounts) d in
       subst P same (into-certs g.accounts c.from found.0 within.0 found.1)

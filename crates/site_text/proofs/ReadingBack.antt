@@ -1,39 +1,32 @@
 -- A canonical text is read again as a proof over the same site, of the same level, flow and cut.
-use Rattle.std.proofs.Common.{◌≡◌, ◌≢◌, ℕ, ◌+◌, ◌<◌, ◌≤◌, ◌^◌, Bool, true, false, ◌&&◌, ◌||◌, not, if◌then◌else◌, List, [], ◌∷◌, ◌++◌, length, take, drop, get_or, Result, Ok, Err, All, IsTrue, refl, ap, sym, subst, ◌∙◌, arith, map, codes, nat_lt, append_assoc}
+use Rattle.std.proofs.Common.{◌≡◌, ◌≢◌, ℕ, ◌+◌, ◌<◌, Bool, true, false, ◌&&◌, ◌||◌, not, if◌then◌else◌, List, [], ◌∷◌, ◌++◌, length, take, drop, get_or, Ok, All, IsTrue, refl, ap, ◌∙◌, arith, map, nat_lt, append_assoc}
 use Rattle.std.specs.Prelude.{flat_map}
-use Rattle.std.specs.List.{list_any, list_all, join_with_byte, before_first, position_or_len}
-use Rattle.std.specs.Str.{bytes_eq}
+use Rattle.std.specs.List.{list_any, list_all, join_with_byte, position_or_len}
 use Rattle.std.specs.List.Sorted.{IsStrictlyIncreasing}
 use Rattle.std.proofs.lemmas.Bool.Decides.{nat_tests}
 use Rattle.std.proofs.lemmas.Simd.{map-map}
-use Rattle.std.proofs.lemmas.List.{map-append, length-append, length-map}
+use Rattle.std.proofs.lemmas.List.{map-append}
 use Rattle.std.proofs.lemmas.List.Elements.{Contains-get_or}
 use Rattle.std.proofs.lemmas.List.Folds.{list_all-append}
 use Rattle.std.proofs.Math.Seq.{take-append_seam, drop-append_seam}
 use Rattle.trust_types.specs.declared.levels.Level.{Level}
 use Rattle.trust_types.specs.declared.levels.Level.TheVariants.{Observer, Apprentice, Journeyer, Master}
-use Rattle.trust_types.specs.declared.accounts.Node.{Node}
 use Rattle.trust_types.specs.declared.accounts.Node.TheVariants.{Root}
-use Rattle.trust_types.specs.declared.flows.FlowLine.{FlowLine}
-use Rattle.trust_types.specs.declared.flows.Side.{Side}
 use Rattle.trust_types.specs.declared.flows.Side.TheVariants.{Outside, Pass, Full}
 use Rattle.trust_types.specs.declared.graphs.Cert.{Cert}
-use Rattle.trust_types.specs.Levels.{IsGrade, level_name}
+use Rattle.trust_types.specs.Levels.{IsGrade}
 use Rattle.trust_types.specs.Certs.{CanStand}
 use Rattle.trust_types.specs.Tables.{IsTable}
 use Rattle.trust_types.specs.Kept.{accounts, certificates}
 use Rattle.trust_types.specs.Lines.{sides_of, same_node}
 use Rattle.trust_types.specs.Proven.{Lists}
-use Rattle.text_lines.specs.Words.{lines, words, is_line, is_word}
-use Rattle.text_lines.specs.Steps.{◌>>=◌, at_line, none_if}
-use Rattle.text_lines.specs.Reading.{reading}
+use Rattle.text_lines.specs.Words.{lines}
 use Rattle.text_lines.proofs.Joining.{words-join, is_line-join, goes_on-join, lines-ended, and_true, both, not_true}
-use Rattle.site_lines.specs.Site.{site_line}
-use Rattle.claim_lines.specs.Claim.{Claim, is_level_line, begins_with_level, level_line, claim_line, has_root}
+use Rattle.claim_lines.specs.Claim.{Claim, is_level_line, begins_with_level, level_line, has_root}
 use Rattle.site_text.specs.Site.{SiteText, ProofText, site_of, site_part, claim_part, claim_of, proof_of, proof}
-use Rattle.site_text.specs.View.{View, of_text}
+use Rattle.site_text.specs.View.{View}
 use Rattle.site_text.specs.Canonical.{line, caps_words, account_words, seed_words, cert_words, level_words, flow_words, pass_words, full_words, site_words, claim_words, IsCanonical, IsReadAs}
-use Rattle.site_text.proofs.Spelling.{AreNames, is_word-level, level_of-name}
+use Rattle.site_text.proofs.Spelling.{AreNames}
 use Rattle.site_text.proofs.Wording.{IsWorded, AreWorded, all_words, all-worded, caps-worded, account-worded, seed-worded, cert-worded, level-worded, flow-worded, pass-worded, full-worded}
 use Rattle.site_text.proofs.Recorded.{records, accounts-records, certificates-records}
 use Rattle.site_text.proofs.SiteSteps.{site_lines, reading-site}

@@ -1,8 +1,7 @@
 -- Each line of a canonical text's site adds its record.
-use Rattle.std.proofs.Common.{◌≡◌, ◌≢◌, ℕ, ◌+◌, ◌<◌, ◌≤◌, Bool, true, false, ◌&&◌, ◌||◌, not, cond, List, [], ◌∷◌, ◌++◌, length, get_or, Option, Some, None, Result, Ok, Err, All, AllPairs, IsTrue, refl, ap, sym, ◌∙◌, arith, nat_lt, nat_le, append_assoc, map, codes, subst, if◌then◌else◌, ◌==◌, eqb}
-use Rattle.std.specs.List.{list_any, list_all, join_with_byte}
+use Rattle.std.proofs.Common.{◌≡◌, ◌≢◌, ℕ, ◌<◌, ◌≤◌, true, false, List, [], ◌∷◌, ◌++◌, length, get_or, Some, None, Ok, All, refl, ap, sym, ◌∙◌, arith, nat_lt, nat_le, append_assoc, map, codes, ◌==◌}
+use Rattle.std.specs.List.{list_all, join_with_byte}
 use Rattle.std.specs.List.Sorted.{IsStrictlyIncreasing}
-use Rattle.std.specs.Str.{bytes_eq}
 use Rattle.std.proofs.lemmas.Bool.Decides.{nat_tests}
 use Rattle.std.proofs.lemmas.List.{map-append, append-nil, length_push}
 use Rattle.std.proofs.lemmas.List.Folds.{list_any_none}
@@ -10,22 +9,19 @@ use Rattle.std.proofs.lemmas.List.Kept.{AllPairs-from_increasing}
 use Rattle.trust_types.specs.declared.levels.Level.{Level}
 use Rattle.trust_types.specs.declared.graphs.Cert.{Cert}
 use Rattle.trust_types.specs.declared.records.Record.{Record}
-use Rattle.trust_types.specs.Levels.{level_name, level_of}
+use Rattle.trust_types.specs.Levels.{level_name}
 use Rattle.trust_types.specs.Names.{is_name, IsName}
-use Rattle.trust_types.specs.NameLists.{number_of, AreApart}
+use Rattle.trust_types.specs.NameLists.{number_of}
 use Rattle.trust_types.specs.Certs.{CanStand, IsCertAmong}
 use Rattle.trust_types.specs.Kept.{accounts, is_seed, certs_of, standing_count}
 use Rattle.trust_types.proofs.Indexing.{not_found}
-use Rattle.text_lines.specs.declared.faults.TextKind.{TextKind}
-use Rattle.text_lines.specs.declared.faults.TextKind.TheVariants.{BadLine, BadName, Twice, TooMany, Unknown, BadLevel, SelfCert}
-use Rattle.text_lines.specs.Words.{words, is_line, is_word}
-use Rattle.text_lines.specs.Steps.{◌>>=◌, or_fault, none_if}
+use Rattle.text_lines.specs.Words.{is_word}
 use Rattle.text_lines.specs.Reading.{reading}
-use Rattle.text_lines.proofs.Joining.{words-join, is_line-join, and_true, reading-append, reading-each}
+use Rattle.text_lines.proofs.Joining.{words-join, is_line-join, reading-append, reading-each}
 use Rattle.site_lines.specs.Site.{join, seed, cert, account_line, seed_line, cert_line, form, site_line}
 use Rattle.cut_check.specs.Line.{name_of}
 use Rattle.site_text.specs.Canonical.{account_words, seed_words, cert_words}
-use Rattle.site_text.proofs.Spelling.{AreNames, name_at, number_of-name, is_word-name, is_word-level, level_of-name}
+use Rattle.site_text.proofs.Spelling.{AreNames, name_at, number_of-name, level_of-name}
 use Rattle.site_text.proofs.Wording.{account-worded, seed-worded, cert-worded}
 use Rattle.site_text.proofs.Placed.{IsPlaced, placed, of_all, of_pairs}
 use Rattle.site_text.proofs.Recorded.{records, cert_record, accounts-records, certs-records, is_seed-records, is_among, standing_count-le}

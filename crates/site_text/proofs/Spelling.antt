@@ -1,6 +1,5 @@
 -- What is written in a word is a word, and is read again as it was.
-use Rattle.std.proofs.Common.{◌≡◌, ◌≢◌, ℕ, ◌+◌, ◌<◌, ◌≤◌, ◌^◌, Bool, true, false, ◌&&◌, ◌||◌, if◌then◌else◌, ◌==◌, not, cond, List, [], ◌∷◌, ◌++◌, length, get_or, Option, Some, None, All, AllPairs, IsTrue, refl, ap, sym, ◌∙◌, arith, nat_lt, map, decimal, codes, subst}
-use Rattle.std.specs.Prelude.{position}
+use Rattle.std.proofs.Common.{◌≡◌, ◌≢◌, ℕ, ◌<◌, ◌≤◌, ◌^◌, Bool, true, false, if◌then◌else◌, ◌==◌, cond, List, [], ◌∷◌, length, get_or, Some, None, All, refl, arith, nat_lt, decimal, codes, subst}
 use Rattle.std.specs.List.{list_all, position_or_len}
 use Rattle.std.specs.Str.{bytes_eq}
 use Rattle.std.proofs.lemmas.Bool.{false≢true}
@@ -16,7 +15,6 @@ use Rattle.trust_types.specs.Names.{is_name, is_name_byte, IsName}
 use Rattle.trust_types.specs.NameLists.{number_of, AreApart}
 use Rattle.trust_types.specs.Lines.{place}
 use Rattle.text_lines.specs.Words.{is_word, is_graphic}
-use Rattle.text_lines.specs.Numbers.{number}
 use Rattle.text_lines.proofs.Decimals.{number-decimal}
 use Rattle.text_lines.proofs.Joining.{both, and_true}
 use Rattle.claim_lines.specs.Claim.{is_dash, is_node, node_of, units_of}

@@ -1,5 +1,5 @@
 -- The text that was written is the canonical one, and reads back.
-use Rattle.std.proofs.Common.{◌≡◌, ◌≢◌, ℕ, ◌<◌, ◌≤◌, ◌^◌, true, false, List, [], ◌∷◌, ◌++◌, length, get_or, map, refl, ap, sym, subst, ◌∙◌, arith, inl, inr, All, IsTrue, append_assoc}
+use Rattle.std.proofs.Common.{◌≡◌, ◌≢◌, ℕ, ◌<◌, ◌≤◌, ◌^◌, false, List, [], ◌∷◌, ◌++◌, length, map, refl, ap, sym, subst, ◌∙◌, arith, inl, inr, All, IsTrue, append_assoc}
 use Rattle.std.specs.List.{flat_map}
 use Rattle.std.proofs.lemmas.Bool.{cases_lt, false≢true}
 use Rattle.std.proofs.lemmas.Grind.{flat_map-append}
@@ -51,12 +51,18 @@ in_order f c l accounts seeds certs flow pass full =
 in_lines : (table : List ℕ) (names : List (List ℕ)) (seeds : List ℕ) (certs : List Cert) (level : Level) (r : Lists) →
     flat_map line (site_words table names seeds certs ++ claim_words names level r)
     ≡ ((((((line (caps_words table) ++ lines_for account_words names) ++ lines_for (seed_words names) seeds) ++ lines_for (cert_words names) certs) ++ line (level_words level))
-        ++ lines_for (flow_words names) r.flow) ++ lines_for (pass_words names) r.pass) ++ lines_for (full_words names) r.full
+    ++ lines_for (flow_words names) r.flow) ++ lines_for (pass_words names) r.pass) ++ lines_for (full_words names) r.full
 in_lines table names seeds certs level r =
     in_order line (caps_words table) (level_words level) (map account_words names) (map (seed_words names) seeds) (map (cert_words names) certs) (map (flow_words names) r.flow)
-        (map (pass_words names) r.pass) (map (full_words names) r.full)
-    ∙ rw (flat_map-map line account_words names, flat_map-map line (seed_words names) seeds, flat_map-map line (cert_words names) certs, flat_map-map line (flow_words names) r.flow,
-        flat_map-map line (pass_words names) r.pass, flat_map-map line (full_words names) r.full) refl
+    (map (pass_words names) r.pass) (map (full_words names) r.full)
+    ∙ rw (
+      flat_map-map line account_words names,
+      flat_map-map line (seed_words names) seeds,
+      flat_map-map line (cert_words names) certs,
+      flat_map-map line (flow_words names) r.flow,
+      flat_map-map line (pass_words names) r.pass,
+      flat_map-map line (full_words names) r.full,
+    ) refl
 
 -- What the calls tell of the graph and the lists that are written.
 pub record AreTold (f : Revision) (level : Level) (r : Lists) : Type 0 where
@@ -101,7 +107,7 @@ are-readers f level r told = record { each = told.readers; seeds = seeds-within 
 pub record Parts (f : Revision) (level : Level) (r : Lists) (text : List ℕ) : Type 0 where
   pub is : text
       ≡ ((((((line (caps_words f.caps) ++ lines_for account_words f.names) ++ lines_for (seed_words f.names) (seeds_of f)) ++ lines_for (cert_words f.names) (certs_of f))
-          ++ line (level_words level)) ++ lines_for (flow_words f.names) r.flow) ++ lines_for (pass_words f.names) r.pass) ++ lines_for (full_words f.names) r.full
+      ++ line (level_words level)) ++ lines_for (flow_words f.names) r.flow) ++ lines_for (pass_words f.names) r.pass) ++ lines_for (full_words f.names) r.full
 
 chained : (t0 t1 t2 t3 t4 t5 t6 t7 t8 a b c d e f g h : List ℕ) → t0 ≡ [] → t1 ≡ t0 ++ a → t2 ≡ t1 ++ b → t3 ≡ t2 ++ c → t4 ≡ t3 ++ d → t5 ≡ t4 ++ e → t6 ≡ t5 ++ f → t7 ≡ t6 ++ g →
     t8 ≡ t7 ++ h → t8 ≡ ((((((a ++ b) ++ c) ++ d) ++ e) ++ f) ++ g) ++ h
@@ -117,7 +123,7 @@ parts_of f level r table names flow pass full t0 t1 t2 t3 t4 t5 t6 t7 t8 et en e
     record {
       is = chained t0 t1 t2 t3 t4 t5 t6 t7 t8 _ _ _ _ _ _ _ _ e0 e1 e2 e3 e4 e5 e6 e7 e8
           ∙ (λ i. ((((((line (caps_words (et i)) ++ lines_for account_words (en i)) ++ lines_for (seed_words f.names) (seeds_of f)) ++ lines_for (cert_words f.names) (certs_of f))
-              ++ line (level_words level)) ++ lines_for (flow_words (en i)) (ef i)) ++ lines_for (pass_words (en i)) (ep i)) ++ lines_for (full_words (en i)) (eu i));
+          ++ line (level_words level)) ++ lines_for (flow_words (en i)) (ef i)) ++ lines_for (pass_words (en i)) (ep i)) ++ lines_for (full_words (en i)) (eu i));
     }
 
 pub canonical : (f : Revision) (level : Level) (r : Lists) (text : List ℕ) → AreTold f level r → Parts f level r text → IsCanonical (of_frozen f) level r text

@@ -1,5 +1,5 @@
 -- Lines written one after another, of lists and of what readers give.
-use Rattle.std.proofs.Common.{◌≡◌, ℕ, zero, suc, ◌+◌, ◌<◌, ◌≤◌, All, subst, Bool, true, false, cond, List, [], ◌∷◌, ◌++◌, length, take, get_or, map, refl, ap, sym, ◌∙◌, arith, add-one, append_assoc, codes, decimal}
+use Rattle.std.proofs.Common.{◌≡◌, ℕ, zero, suc, ◌+◌, ◌<◌, ◌≤◌, All, subst, true, false, List, [], ◌∷◌, ◌++◌, length, take, get_or, map, refl, ap, sym, ◌∙◌, arith, add-one, append_assoc, codes, decimal}
 use Rattle.std.specs.List.{flat_map, filter, range_with_len, join_with_byte}
 use Rattle.std.proofs.lemmas.Grind.{flat_map-append}
 use Rattle.std.proofs.lemmas.List.{append-nil, flat_map_more, take_more, get_or_default}
@@ -30,7 +30,7 @@ pub caps_done : (old after text new entries : List ℕ) (n : ℕ) → after ≡ 
     new ≡ text ++ 10 ∷ [] → new ≡ old ++ line (caps_words entries)
 caps_done old after text new entries n begun entered all ended =
     ended ∙ ap (λ bs. bs ++ 10 ∷ []) (entered ∙ ap (λ bs. bs ++ flat_map (λ m. 32 ∷ decimal m) (take n entries)) begun
-        ∙ ap (λ ns. (old ++ codes "caps") ++ flat_map (λ m. 32 ∷ decimal m) ns) (all_taken entries n all))
+    ∙ ap (λ ns. (old ++ codes "caps") ++ flat_map (λ m. 32 ∷ decimal m) ns) (all_taken entries n all))
     ∙ caps-bytes old entries
 
 -- One item more of a list.
@@ -86,7 +86,6 @@ more_certs words_of bs degree given n =
     append_assoc bs (lines_for words_of (certs_below degree given n)) (lines_for words_of (first_given given n (degree n)))
     ∙ ap (λ lines. bs ++ lines) (sym (flat_map-append (λ c. line (words_of c)) (certs_below degree given n) (first_given given n (degree n))))
     ∙ ap (λ certs. bs ++ lines_for words_of certs) (sym (certs_more degree given n))
-
 
 -- The name of each account, and so each of the list.
 pub all_named : (names : List (List ℕ)) (n : ℕ) → length names ≤ n → ((k : ℕ) → k < n → IsName (name_of names k)) → All IsName names

@@ -1,5 +1,5 @@
 -- What is written of a graph, in order, and the lines that it gives.
-use Rattle.std.specs.Prelude.{ℕ, List, ◌++◌, map, filter, flat_map}
+use Rattle.std.specs.Prelude.{ℕ, List, map, filter, flat_map}
 use Rattle.std.specs.List.{range_with_len}
 use Rattle.trust_types.specs.declared.graphs.Cert.{Cert}
 use Rattle.trust_types.specs.Graph.{Certificates}

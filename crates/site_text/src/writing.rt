@@ -170,7 +170,12 @@ fn put_edge(text: &mut Vec<u8>, names: &NameIndex, edge: &FlowLine) -> Result<()
 }
 
 /// A line of that keyword for each node.
-fn put_nodes(text: &mut Vec<u8>, keyword: &[u8], names: &NameIndex, nodes: &[Node]) -> Result<(), NoMemory>
+fn put_nodes(
+    text: &mut Vec<u8>,
+    keyword: &[u8],
+    names: &NameIndex,
+    nodes: &[Node],
+) -> Result<(), NoMemory>
     requires { All (λ x. place x ≤ length names.now) nodes.now }
     ensures { OnOk result (text.new.items ≡ text.old.items ++ lines_for (λ x. keyword.now ∷ node_name names.now x ∷ []) nodes.now) }
 {
@@ -218,4 +223,65 @@ fn put_word(text: &mut Vec<u8>, word: &[u8]) -> Result<(), NoMemory>
     text.push(b' ')?;
     text.extend_from_slice(word)?;
     Ok(())
+}
+
+#[cfg(test)]
+mod tests {
+    use super::*;
+    use std::alloc::AllocError;
+    use std::sync::Arc;
+    use std::test::Fail;
+    use trust_types::{Caps, Name};
+
+    /// A chain: raph, a seed, certifies alan.
+    fn chain(alloc: Global) -> Result<Arc<Frozen>, Fail> {
+        let mut names = NameIndex::new(alloc);
+        names.push(Name::read(b"raph").ok_or("raph")?)?;
+        let alan = Name::read(b"alan").ok_or("alan")?;
+        if names.find(&alan).is_some() {
+            return Err("alan twice".into());
+        }
+        names.push(alan)?;
+        let cert = Cert {
+            from: AccountNo(0),
+            to: AccountNo(1),
+            level: Level::Journeyer,
+        };
+        let seeds = vec![in alloc; AccountNo(0)]?;
+        let certs = vec![in alloc; cert]?;
+        let caps = Caps::read(&[10, 1])?;
+        Ok(Frozen::of(alloc, 4, caps, names.into_names(), seeds, certs)?)
+    }
+
+    /// Raph alone is served, and is full.
+    fn roster(alloc: Global) -> Result<LevelRoster, AllocError>
+        ensures { IfOk result (λ roster. AreAmong 2 (lists_of roster)) }
+    {
+        let unit = FlowLine {
+            from: Node::Root,
+            to: AccountNo(0),
+            units: 1,
+        };
+        Ok(LevelRoster {
+            level: Level::Apprentice,
+            served: vec![in alloc; AccountNo(0)]?,
+            flow: vec![in alloc; unit]?,
+            pass: vec![in alloc; Node::Root]?,
+            full: vec![in alloc; Node::Account(AccountNo(0))]?,
+        })
+    }
+
+    #[test]
+    fn each_line_has_its_place(rt: HostRuntime) -> Result<(), Fail> {
+        let frozen = chain(rt.alloc())?;
+        let roster = roster(rt.alloc())?;
+        if frozen.accounts() != 2 {
+            return Err("accounts".into());
+        }
+        let text = proof_text(rt.alloc(), &frozen, &roster)?;
+        let lines = b"caps 10 1\naccount raph\naccount alan\nseed raph\ncert raph alan Journeyer\n\
+            level Apprentice\nflow - raph 1\npass -\nfull raph\n";
+        assert!(rt; text.as_slice() == lines.as_slice());
+        Ok(())
+    }
 }

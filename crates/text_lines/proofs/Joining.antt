@@ -1,12 +1,11 @@
 -- Words joined to lines and lines to a text, which are parted again; and texts read part by part.
-use Rattle.std.proofs.Common.{map, ◌≡◌, ℕ, ◌+◌, ◌<◌, ◌≤◌, Bool, true, false, ◌&&◌, not, List, [], ◌∷◌, ◌++◌, length, Result, Ok, Err, refl, ap, sym, ◌∙◌, arith, add-one, suc, cond, All, rules, append_assoc}
-use Rattle.std.specs.List.{join_with_byte, slice_split, list_all, onto_first}
+use Rattle.std.proofs.Common.{map, ◌≡◌, ℕ, ◌+◌, ◌<◌, Bool, true, false, ◌&&◌, not, List, [], ◌∷◌, ◌++◌, length, Result, Ok, Err, refl, ap, sym, ◌∙◌, arith, All, append_assoc}
+use Rattle.std.specs.List.{join_with_byte, list_all, onto_first}
 use Rattle.std.proofs.lemmas.List.{append-nil}
 use Rattle.std.proofs.lemmas.List.Elements.{All-nil, All-cons}
 use Rattle.std.proofs.lemmas.List.Splits.{slice_split_none, slice_split_at}
 use Rattle.std.proofs.lemmas.List.Folds.{list_all-append}
 use Rattle.text_lines.specs.declared.faults.TextKind.{TextKind}
-use Rattle.text_lines.specs.declared.faults.TextFault.{TextFault}
 use Rattle.text_lines.specs.Words.{lines, words, is_end, is_space, is_word, is_line, is_graphic}
 use Rattle.text_lines.specs.Reading.{reading}
 use Rattle.text_lines.specs.Steps.{◌>>=◌}

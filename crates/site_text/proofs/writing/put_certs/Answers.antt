@@ -1,4 +1,4 @@
-use Rattle.std.proofs.Common.{◌≡◌, ◌∙◌, ap, ◌++◌}
+use Rattle.std.proofs.Common.{◌∙◌, ap, ◌++◌}
 use Rattle.trust_types.specs.Layout.{degree, given}
 use Rattle.site_text.specs.Canonical.{cert_words}
 use Rattle.site_text.specs.Writing.{first_given, lines_for}

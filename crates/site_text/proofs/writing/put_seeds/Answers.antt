@@ -1,4 +1,4 @@
-use Rattle.std.proofs.Common.{◌≡◌, ◌∙◌, ap, sym, ◌++◌}
+use Rattle.std.proofs.Common.{◌∙◌, ap, sym, ◌++◌}
 use Rattle.frozen.specs.Revision.{certificates}
 use Rattle.site_text.specs.Canonical.{seed_words}
 use Rattle.site_text.specs.Writing.{lines_for}
@@ -12,9 +12,9 @@ loop-number-preserved c =
       | then-is_seed+in_ok-put_seed w ↦
           ap (λ text. text.items) w.text-is
           ∙ seeds_step c.args.frozen.now.names _ c.args.text.now.items _ _ (certificates c.args.frozen.now) c.loop-number.number (sym c.is_seed.ensures ∙ w.if-is_seed.true) w.names.ensures.all
-              c.loop-number.invariant w.in_ok-put_seed.ensures
+          c.loop-number.invariant w.in_ok-put_seed.ensures
       | else-is_seed w ↦
           ap (λ text. text.items) w.text-is ∙ c.loop-number.invariant
           ∙ ap (λ seeds. c.args.text.now.items ++ lines_for (seed_words c.args.frozen.now.names) seeds)
-              (sym (same_seeds (certificates c.args.frozen.now) c.loop-number.number (sym c.is_seed.ensures ∙ w.if-is_seed.false)))
+          (sym (same_seeds (certificates c.args.frozen.now) c.loop-number.number (sym c.is_seed.ensures ∙ w.if-is_seed.false)))
     ]
