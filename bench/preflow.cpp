@@ -3,14 +3,14 @@
 //     g++ -O2 -o preflow bench/preflow.cpp && ./preflow < SITE
 //
 // It writes a line for each level, lowest first, with the number of accounts that the flow accepts; and to the standard error
-// the seconds that the three solves took, and the whole. The certificates of a pair must not be given twice.
+// the processor seconds that the three solves took, those of making the graphs, and the whole. The certificates of a pair must not be given twice.
 
 #include <lemon/preflow.h>
 #include <lemon/smart_graph.h>
 
 #include <algorithm>
 #include <array>
-#include <chrono>
+#include <ctime>
 #include <iostream>
 #include <stdexcept>
 #include <string>
@@ -57,7 +57,9 @@ void read_caps(std::istream& in, Site& site) {
 Site read_site(std::istream& in) {
     Site site;
     std::unordered_map<std::string, int> numbers;
-    std::string word, giver, taker;
+    std::string word;
+    std::string giver;
+    std::string taker;
     read_caps(in, site);
     while (in >> word) {
         if (word == "account") {
@@ -76,6 +78,8 @@ Site read_site(std::istream& in) {
     }
     return site;
 }
+
+double processor_seconds() { return static_cast<double>(std::clock()) / CLOCKS_PER_SEC; }
 
 // The capacity of each account at a level, by its distance from the root.
 std::vector<int> capacities(const Site& site, int level) {
@@ -102,8 +106,15 @@ std::vector<int> capacities(const Site& site, int level) {
     return caps;
 }
 
-// The accounts that a greatest flow through the split graph of a level accepts. The seconds are those of the solve alone.
-int accepted(const Site& site, int level, double& seconds) {
+// Processor seconds: of making the split graphs with their capacities, and of the solves alone.
+struct Seconds {
+    double making = 0;
+    double solving = 0;
+};
+
+// The accounts that a greatest flow through the split graph of a level accepts.
+int accepted(const Site& site, int level, Seconds& seconds) {
+    const double begun = processor_seconds();
     const std::vector<int> caps = capacities(site, level);
     const int accounts = static_cast<int>(site.names.size());
     lemon::SmartDigraph graph;
@@ -126,9 +137,10 @@ int accepted(const Site& site, int level, double& seconds) {
         if (cert.level >= level) capacity[graph.addArc(second_half(cert.from), first_half(cert.to))] = kUnbounded;
     }
     lemon::Preflow<lemon::SmartDigraph> preflow(graph, capacity, source, sink);
-    const auto before = std::chrono::steady_clock::now();
+    const double made = processor_seconds();
     preflow.run();
-    seconds = std::chrono::duration<double>(std::chrono::steady_clock::now() - before).count();
+    seconds.making += made - begun;
+    seconds.solving += processor_seconds() - made;
     return preflow.flowValue();
 }
 
@@ -136,15 +148,11 @@ int accepted(const Site& site, int level, double& seconds) {
 
 int main() {
     std::ios::sync_with_stdio(false);
-    const auto before = std::chrono::steady_clock::now();
     const Site site = read_site(std::cin);
-    double solves = 0;
+    Seconds seconds;
     for (std::size_t level = 0; level < kLevels.size(); ++level) {
-        double seconds = 0;
         std::cout << kLevels[level] << ' ' << accepted(site, static_cast<int>(level), seconds) << '\n';
-        solves += seconds;
-        std::cerr << kLevels[level] << ": solve " << seconds << " s\n";
     }
-    const double whole = std::chrono::duration<double>(std::chrono::steady_clock::now() - before).count();
-    std::cerr << "solves " << solves << " s, whole " << whole << " s\n";
+    std::cerr << "solves " << seconds.solving << " s, graphs " << seconds.making << " s, whole " << processor_seconds()
+              << " s\n";
 }
