@@ -12,20 +12,22 @@ use Rattle.trust_types.specs.Proven.{Lists, IsProven}
 use Rattle.trust_types.proofs.ProvenRosters.{proven_is_roster}
 use Rattle.frozen.specs.Revision.{Revision, certificates}
 use Rattle.roster_form.specs.Bounded.{is_accepted}
+use Rattle.roster_form.specs.LevelRosters.{AreAmong}
 use Rattle.roster_form.specs.Candidates.{Rosters, IsSound, AreSound}
 use Rattle.roster_form.proofs.Bounded.{all_rise, proven_is_bounded}
 
-pub sound : (f : Revision) (level : Level) (r : Lists) → IsProven (certificates f) level f.caps r → IsSound f level r
-sound f level r proven = record {
+pub sound : (f : Revision) (level : Level) (r : Lists) → IsProven (certificates f) level f.caps r → AreAmong (certificates f).accounts r → IsSound f level r
+sound f level r proven among = record {
   proven = proven;
   roster = proven_is_roster (certificates f) level f.caps r proven;
   bounded = proven_is_bounded (certificates f) level f.caps r proven;
+  among = among;
 }
 
 -- the same under other names of the graph and the level
-pub sound_at : (f g : Revision) (level grade : Level) (r : Lists) → IsProven (certificates f) level f.caps r → f ≡ g → grade ≡ level → IsSound g grade r
-sound_at f g level grade r proven same at =
-    subst (λ (h : Revision). IsSound h grade r) same (subst (λ (l : Level). IsSound f l r) (sym at) (sound f level r proven))
+pub sound_at : (f g : Revision) (level grade : Level) (r : Lists) → IsProven (certificates f) level f.caps r → AreAmong (certificates f).accounts r → f ≡ g → grade ≡ level → IsSound g grade r
+sound_at f g level grade r proven among same at =
+    subst (λ (h : Revision). IsSound h grade r) same (subst (λ (l : Level). IsSound f l r) (sym at) (sound f level r proven among))
 
 rises_weakly : (xs : List ℕ) → AllPairs (λ x y. x < y) xs → (i j : ℕ) → i ≤ j → j < length xs → get_or xs i 0 ≤ get_or xs j 0
 rises_weakly xs rises i j order within = elim (cases_lt i j) [
@@ -64,9 +66,8 @@ found_accepted xs x r found rises is says =
     let both : (found ≡ true) ↔ Contains xs x = subst (λ (b : Bool). (b ≡ true) ↔ Contains xs x) (sym says) (contains_by_search xs x r (all_rise xs rises) is) in
     (accepted_by xs x found both, both)
 
-pub all_sound : (c : Rosters) → IsProven (certificates c.graph) Apprentice c.graph.caps c.apprentice → IsProven (certificates c.graph) Journeyer c.graph.caps c.journeyer →
-    IsProven (certificates c.graph) Master c.graph.caps c.master → AreSound c
+pub all_sound : (c : Rosters) → IsSound c.graph Apprentice c.apprentice → IsSound c.graph Journeyer c.journeyer → IsSound c.graph Master c.master → AreSound c
 all_sound c apprentice journeyer master Observer = tt
-all_sound c apprentice journeyer master Apprentice = sound c.graph Apprentice c.apprentice apprentice
-all_sound c apprentice journeyer master Journeyer = sound c.graph Journeyer c.journeyer journeyer
-all_sound c apprentice journeyer master Master = sound c.graph Master c.master master
+all_sound c apprentice journeyer master Apprentice = apprentice
+all_sound c apprentice journeyer master Journeyer = journeyer
+all_sound c apprentice journeyer master Master = master

@@ -7,7 +7,7 @@ use Rattle.trust_types.specs.Roster.{IsRoster}
 use Rattle.frozen.specs.Revision.{Revision, certificates}
 use Rattle.roster_form.specs.Bounded.{IsBounded, is_accepted}
 use Rattle.roster_form.specs.declared.level_rosters.LevelRoster.{LevelRoster}
-use Rattle.roster_form.specs.LevelRosters.{lists_of}
+use Rattle.roster_form.specs.LevelRosters.{lists_of, AreAmong}
 
 -- The graph, and the lists of each grade's roster.
 pub record Rosters : Type 0 where
@@ -29,6 +29,7 @@ pub record IsSound (f : Revision) (level : Level) (r : Lists) : Type 0 where
   pub proven : IsProven (certificates f) level f.caps r
   pub roster : IsRoster (certificates f) level f.caps r.served
   pub bounded : IsBounded (certificates f) level f.caps r.served
+  pub among : AreAmong (certificates f).accounts r
 
 -- It is known of each grade's.
 abbrev pub AreSound : Rosters → Type 0
@@ -38,6 +39,7 @@ AreSound c = (level : Level) → IfSome (lists_at c level) (IsSound c.graph leve
 pub record IsRosterFor (f : Revision) (level : Level) (r : LevelRoster) : Type 0 where
   pub grade : r.level ≡ level
   pub proven : IsProven (certificates f) level f.caps (lists_of r)
+  pub among : AreAmong (certificates f).accounts (lists_of r)
 
 -- The level that an account holds: the highest whose roster has it, and Observer where none has.
 abbrev pub held_level : Rosters → ℕ → Level

@@ -1,10 +1,11 @@
 -- What a draft tells of the records so far, and that it tells it after one record more.
-use Rattle.std.proofs.Common.{◌≡◌, ◌≢◌, ℕ, zero, suc, ◌+◌, ◌<◌, ◌≤◌, Bool, true, false, ◌||◌, cond, List, [], ◌∷◌, ◌++◌, length, get_or, set, Option, Some, None, refl, sym, ◌∙◌, ap, arith, nat_le, nat_lt, nat_eq}
-use Rattle.std.specs.Prelude.{position}
+use Rattle.std.proofs.Common.{bytes_eq, ◌≡◌, ◌≢◌, ℕ, zero, suc, ◌+◌, ◌<◌, ◌≤◌, Bool, true, false, ◌||◌, cond, List, [], ◌∷◌, ◌++◌, length, get_or, set, Option, Some, None, refl, sym, ◌∙◌, ap, arith, nat_le, nat_lt, nat_eq}
+use Rattle.std.specs.Prelude.{position, IfSome}
 use Rattle.std.specs.List.{All}
 use Rattle.std.proofs.lemmas.List.{length_push, append-nil, length-set, get_or-set_same, get_or-set_other}
 use Rattle.std.proofs.lemmas.List.Elements.{filter_map-append, All-push, All-weaker}
-use Rattle.std.proofs.lemmas.List.Folds.{list_any-append}
+use Rattle.std.proofs.lemmas.List.Folds.{list_any-append, position_or_len_push}
+use Rattle.std.proofs.lemmas.List.Sums.{prefix_len-le-length}
 use Rattle.std.proofs.lemmas.Option.{cond_some}
 use Rattle.std.proofs.Math.Bool.{or-true, or-false}
 use Rattle.trust_types.specs.declared.graphs.Cert.{Cert}
@@ -16,6 +17,7 @@ use Rattle.cert_log.specs.Standing.{IsBetween}
 use Rattle.site_lines.specs.Site.{join, seed, cert}
 use Rattle.site_lines.specs.Drafts.{IsSiteDraft}
 use Rattle.site_lines.specs.declared.drafts.SiteDraft.{SiteDraft}
+use Rattle.site_lines.specs.declared.drafts.Known.{Known}
 
 pub cond_none : {A : Type 0} (b : Bool) (x : A) → None ≡ cond b (Some x) None → b ≡ false
 cond_none true x e = cc
@@ -41,10 +43,23 @@ get_or-push_default (x ∷ xs) (suc a) d = get_or-push_default xs a d
 between_more : (n m : ℕ) (certs : List Cert) → n ≤ m → All (IsBetween n) certs → All (IsBetween m) certs
 between_more n m certs le each = All-weaker (IsBetween n) (IsBetween m) (λ c is. record { giver = omega (arith, is.giver); taker = omega (arith, is.taker); others = is.others }) certs each
 
+some_by : (n l m k i : ℕ) (b : Bool) → cond (nat_lt n l) (Some n) None ≡ Some i → n ≤ l → m ≡ cond (nat_eq n l) (l + cond b 0 1) n → k ≡ l + 1 → cond (nat_lt m k) (Some m) None ≡ Some i
+some_by n l m k i b h le m_is k_is = grind arith
+
+-- a name that has a number keeps it
+number-push : (names : List (List ℕ)) (new name : List ℕ) (i : ℕ) → number_of names name ≡ Some i → number_of (names ++ new ∷ []) name ≡ Some i
+number-push names new name i h =
+    some_by _ (length names) _ _ i (bytes_eq new name) h (prefix_len-le-length _ names) (position_or_len_push (λ other. bytes_eq other name) names new) (length_push names new)
+
+known_more : (last : Option Known) (names : List (List ℕ)) (new : List ℕ) → IfSome last (λ known. number_of names known.name ≡ Some known.account)
+    → IfSome last (λ known. number_of (names ++ new ∷ []) known.name ≡ Some known.account)
+known_more None names new is = tt
+known_more (Some known) names new is = number-push names new known.name known.account is
+
 pub draft-join : (d new : SiteDraft) (k : List Record) (word name : List ℕ) → IsSiteDraft d k → name ≡ word
-    → new.names ≡ d.names ++ name ∷ [] → new.seeds.items ≡ d.seeds.items ++ false ∷ [] → new.certs ≡ d.certs → nat_le 100000 (length (accounts k)) ≡ false
+    → new.names ≡ d.names ++ name ∷ [] → new.seeds.items ≡ d.seeds.items ++ false ∷ [] → new.certs ≡ d.certs → new.giver ≡ d.giver → nat_le 100000 (length (accounts k)) ≡ false
     → IsSiteDraft new (k ++ join word ∷ [])
-draft-join d new k w name is e ne fe ce few =
+draft-join d new k w name is e ne fe ce ge few =
     let acc : accounts (k ++ join w ∷ []) ≡ accounts k ++ w ∷ [] = filter_map-append name_of k (join w ∷ []) in
     let more : length (accounts (k ++ join w ∷ [])) ≡ length (accounts k) + 1 = ap length acc ∙ length_push (accounts k) w in
     let less : length (accounts k) < 100000 = grind arith in
@@ -55,6 +70,7 @@ draft-join d new k w name is e ne fe ce few =
       flags = ap length fe ∙ length_push d.seeds.items false ∙ ap (λ m. m + 1) is.flags ∙ sym more;
       seeded = λ a. ap (λ xs. get_or xs a false) fe ∙ get_or-push_default d.seeds.items a false ∙ is.seeded a ∙ sym (list_any-append (names_seed a) k (join w ∷ []) ∙ or-false (is_seed k a));
       logged = rw (ce, given) is.logged;
+      known = rw (ge, acc) (known_more d.giver (accounts k) w is.known);
       between = rw given (between_more _ _ _ (rw more (omega arith)) is.between);
     }
 
@@ -63,8 +79,8 @@ set-is xs i a true l e = let same : a ≡ i = grind arith in rw (same, get_or-se
 set-is xs i a false l e = let other : a ≢ i = grind arith in rw (get_or-set_other xs i a true false other) (sym (or-false (get_or xs a false)))
 
 pub draft-seed : (d new : SiteDraft) (k : List Record) (i : ℕ) → IsSiteDraft d k → i < length (accounts k)
-    → new.names ≡ d.names → new.seeds.items ≡ set d.seeds.items i true → new.certs ≡ d.certs → IsSiteDraft new (k ++ seed i ∷ [])
-draft-seed d new k i is l ne fe ce =
+    → new.names ≡ d.names → new.seeds.items ≡ set d.seeds.items i true → new.certs ≡ d.certs → new.giver ≡ d.giver → IsSiteDraft new (k ++ seed i ∷ [])
+draft-seed d new k i is l ne fe ce ge =
     let acc : accounts (k ++ seed i ∷ []) ≡ accounts k = filter_map-append name_of k (seed i ∷ []) ∙ append-nil (accounts k) in
     let given : certs_of (k ++ seed i ∷ []) ≡ certs_of k = filter_map-append cert_of k (seed i ∷ []) ∙ append-nil (certs_of k) in
     let inside : i < length d.seeds.items = rw is.flags l in
@@ -74,6 +90,7 @@ draft-seed d new k i is l ne fe ce =
       flags = ap length fe ∙ length-set d.seeds.items i true ∙ is.flags ∙ ap length (sym acc);
       seeded = λ a. ap (λ xs. get_or xs a false) fe ∙ set-is d.seeds.items i a (nat_eq a i) inside refl ∙ ap (λ b. b || (nat_eq a i || false)) (is.seeded a) ∙ sym (list_any-append (names_seed a) k (seed i ∷ []));
       logged = rw (ce, given) is.logged;
+      known = rw (ge, acc) is.known;
       between = rw (acc, given) is.between;
     }
 
@@ -82,8 +99,8 @@ pub given-push : (k : List Record) (c : Cert) → certs_of (k ++ cert c.from c.t
 given-push k c = filter_map-append cert_of k (cert c.from c.to c.level ∷ [])
 
 pub draft-cert : (d new : SiteDraft) (k : List Record) (c : Cert) → IsSiteDraft d k → IsBetween (length (accounts k)) c
-    → new.names ≡ d.names → new.seeds.items ≡ d.seeds.items → IsLog new.certs (certs_of k ++ c ∷ []) → IsSiteDraft new (k ++ cert c.from c.to c.level ∷ [])
-draft-cert d new k c is between ne fe ce =
+    → new.names ≡ d.names → new.seeds.items ≡ d.seeds.items → IsLog new.certs (certs_of k ++ c ∷ []) → new.giver ≡ d.giver → IsSiteDraft new (k ++ cert c.from c.to c.level ∷ [])
+draft-cert d new k c is between ne fe ce ge =
     let acc : accounts (k ++ cert c.from c.to c.level ∷ []) ≡ accounts k = filter_map-append name_of k (cert c.from c.to c.level ∷ []) ∙ append-nil (accounts k) in
     record {
       named = ne ∙ is.named ∙ sym acc;
@@ -91,6 +108,7 @@ draft-cert d new k c is between ne fe ce =
       flags = ap length fe ∙ is.flags ∙ ap length (sym acc);
       seeded = λ a. ap (λ xs. get_or xs a false) fe ∙ is.seeded a ∙ sym (list_any-append (names_seed a) k (cert c.from c.to c.level ∷ []) ∙ or-false (is_seed k a));
       logged = rw (given-push k c) ce;
+      known = rw (ge, acc) is.known;
       between = rw (acc, given-push k c) (All-push (IsBetween (length (accounts k))) (certs_of k) c is.between between);
     }
 

@@ -1,10 +1,10 @@
 -- What is read of a site, against the records that its lines stand for.
-use Rattle.std.specs.Prelude.{ℕ, Bool, false, List, [], ◌∷◌, ◌++◌, ◌≡◌, ◌≤◌, ◌<◌, ◌↔◌, length, slice_index_or, All, Contains, IsTrue, Result, Ok, Err}
+use Rattle.std.specs.Prelude.{ℕ, Bool, false, List, [], ◌∷◌, ◌++◌, ◌≡◌, ◌≤◌, ◌<◌, ◌↔◌, length, slice_index_or, All, Contains, IsTrue, IfSome, Some, Result, Ok, Err}
 use Rattle.std.specs.List.Sorted.{IsStrictlyIncreasing}
 use Rattle.trust_types.specs.declared.graphs.Cert.{Cert}
 use Rattle.trust_types.specs.declared.records.Record.{Record}
 use Rattle.trust_types.specs.Levels.{IsGrade}
-use Rattle.trust_types.specs.NameLists.{AreApart}
+use Rattle.trust_types.specs.NameLists.{AreApart, number_of}
 use Rattle.trust_types.specs.Kept.{accounts, is_seed, certs_of, standing}
 use Rattle.trust_types.specs.Certs.{CanStand}
 use Rattle.cert_log.specs.Log.{IsLog}
@@ -26,6 +26,7 @@ pub record IsSiteDraft (draft : SiteDraft) (k : List Record) : Type 0 where
   pub flags : length draft.seeds.items ≡ length (accounts k)
   pub seeded : (a : ℕ) → flag draft.seeds.items a ≡ is_seed k a
   pub logged : IsLog draft.certs (certs_of k)
+  pub known : IfSome draft.giver (λ last. number_of (accounts k) last.name ≡ Some last.account)
   pub between : All (IsBetween (length (accounts k))) (certs_of k)
 
 -- What became of a draft of these records, and what the line says: a record more, or the line's fault.

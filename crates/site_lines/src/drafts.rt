@@ -7,7 +7,7 @@ use crate::seeds::mark;
 use cert_log::CertLog;
 use std::alloc::Global;
 use text_lines::{LineFault, TextKind, Words, is_line};
-use trust_types::{Cert, Level, Name, NameIndex};
+use trust_types::{AccountNo, Cert, Level, Name, NameIndex};
 
 /// The most accounts.
 const MOST_ACCOUNTS: usize = 100_000;
@@ -20,14 +20,24 @@ pub struct SiteDraft {
     /// For each account, whether it is a seed.
     pub(crate) seeds: Vec<bool>,
     pub(crate) certs: CertLog,
+    /// The last giver: in a text in order, most certificates are of the giver of the one before.
+    pub(crate) giver: Option<Known>,
     ghost few: { length names ≤ 100000 },
     ghost flagged: { vec_len seeds ≤ length names },
+}
+
+/// An account by its name.
+#[derive(Drop)]
+pub struct Known {
+    name: Name,
+    account: AccountNo,
 }
 
 impl SiteDraft {
     ghost use Rattle.std.specs.Prelude.{◌≡◌, [], ℕ, List};
     ghost use Rattle.trust_types.specs.declared.records.Record.{Record};
     ghost use Rattle.trust_types.specs.Kept.{accounts};
+    ghost use Rattle.trust_types.specs.NameLists.{number_of};
     ghost use Rattle.text_lines.specs.Reading.{Reads};
     ghost use Rattle.site_lines.specs.Site.{account_line, seed_line, cert_line, form, site_line};
     ghost use Rattle.site_lines.specs.Drafts.{IsSiteDraft, Adds};
@@ -40,6 +50,7 @@ impl SiteDraft {
             names: NameIndex::new(alloc),
             seeds: Vec::new(alloc),
             certs: CertLog::new(alloc),
+            giver: None,
         }
     }
 
@@ -143,7 +154,7 @@ impl SiteDraft {
         let Some(taker) = Name::read(taker) else {
             return Err(LineFault::Kind(TextKind::BadName));
         };
-        let Some(from) = self.names.find(&giver) else {
+        let Some(from) = self.find_giver(&giver) else {
             return Err(LineFault::Kind(TextKind::Unknown));
         };
         let Some(to) = self.names.find(&taker) else {
@@ -156,5 +167,23 @@ impl SiteDraft {
             return Err(LineFault::Kind(TextKind::TooMany));
         }
         Ok(())
+    }
+
+    /// The account of that name, where there is one. The last giver's needs no look-up.
+    fn find_giver(&mut self, name: &Name) -> Option<AccountNo>
+        ensures draft { (k : List Record) → IsSiteDraft self.old k → IsSiteDraft self.new k }
+        ensures found { (k : List Record) → IsSiteDraft self.old k → result ≡ number_of (accounts k) name.now }
+    {
+        if let Some(known) = &self.giver {
+            if known.name == *name {
+                return Some(known.account);
+            }
+        }
+        let account = self.names.find(name)?;
+        self.giver = Some(Known {
+            name: *name,
+            account,
+        });
+        Some(account)
     }
 }

@@ -32,6 +32,7 @@ impl SiteDraft {
             names,
             seeds,
             certs,
+            ..
         } = self;
         let seeds = marked(alloc, &seeds)?;
         let certs = certs.into_standing()?;

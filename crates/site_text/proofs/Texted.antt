@@ -24,7 +24,8 @@ use Rattle.trust_types.specs.Tables.{IsTable}
 use Rattle.trust_types.proofs.RowsOf.{taker_of_standing}
 use Rattle.frozen.specs.Revision.{Revision, certificates}
 use Rattle.site_text.specs.View.{of_frozen}
-use Rattle.site_text.specs.Canonical.{line, caps_words, account_words, seed_words, cert_words, level_words, flow_words, pass_words, full_words, site_words, claim_words, AreAmong, IsCanonical, IsReadAs}
+use Rattle.roster_form.specs.LevelRosters.{AreAmong}
+use Rattle.site_text.specs.Canonical.{line, caps_words, account_words, seed_words, cert_words, level_words, flow_words, pass_words, full_words, site_words, claim_words, IsCanonical, IsReadAs}
 use Rattle.site_text.specs.Writing.{seeds_below, certs_below, lines_for}
 use Rattle.site_text.proofs.GraphLists.{AreReaders, can-stand, made-of, seeds-rise}
 use Rattle.site_text.proofs.ReadingBack.{IsWritten, read_back}

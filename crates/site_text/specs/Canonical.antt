@@ -61,13 +61,6 @@ pub record IsCanonical (v : View) (level : Level) (r : Lists) (text : List ℕ) 
   pub graph : IsMadeOf v.graph (length v.names) seeds certs
   pub written : text ≡ flat_map line (site_words v.table v.names seeds certs ++ claim_words v.names level r)
 
--- The lists name accounts of the site alone.
-pub record AreAmong (n : ℕ) (r : Lists) : Type 0 where
-  pub givers : All (λ l. place l.from ≤ n) r.flow
-  pub takers : All (λ l. l.to < n) r.flow
-  pub pass : All (λ x. place x ≤ n) r.pass
-  pub full : All (λ x. place x ≤ n) r.full
-
 -- The text is read as a proof over the same site, of this level, flow and cut.
 pub record IsReadAs (v : View) (level : Level) (r : Lists) (text : List ℕ) : Type 0 where
   pub claimed : ProofText

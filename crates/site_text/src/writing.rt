@@ -7,10 +7,10 @@ ghost use Rattle.trust_types.specs.Names.{IsName};
 ghost use Rattle.trust_types.specs.NameLists.{AreApart};
 ghost use Rattle.trust_types.specs.Rows.{GivesEachOnce};
 ghost use Rattle.frozen.specs.Revision.{certificates};
-ghost use Rattle.roster_form.specs.LevelRosters.{lists_of};
+ghost use Rattle.roster_form.specs.LevelRosters.{lists_of, AreAmong};
 ghost use Rattle.cut_check.specs.Line.{name_of, node_name};
 ghost use Rattle.site_text.specs.View.{of_frozen};
-ghost use Rattle.site_text.specs.Canonical.{line, caps_words, account_words, seed_words, cert_words, level_words, flow_words, AreAmong, IsCanonical, IsReadAs};
+ghost use Rattle.site_text.specs.Canonical.{line, caps_words, account_words, seed_words, cert_words, level_words, flow_words, IsCanonical, IsReadAs};
 ghost use Rattle.site_text.specs.Writing.{seeds_below, first_given, certs_below, lines_for};
 
 use frozen::Frozen;

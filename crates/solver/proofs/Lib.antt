@@ -1,3 +1,4 @@
 mod Listing
 mod Writing
 mod Proving
+mod Among

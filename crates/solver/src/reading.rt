@@ -8,7 +8,7 @@ ghost use Rattle.trust_types.specs.Proven.{IsProven};
 ghost use Rattle.trust_types.specs.Rows.{GivesEachOnce};
 ghost use Rattle.frozen.specs.Revision.{certificates};
 ghost use Rattle.flow_engine.specs.Solved.{IsSolved, flow_in, sides_in};
-ghost use Rattle.roster_form.specs.LevelRosters.{lists_of};
+ghost use Rattle.roster_form.specs.LevelRosters.{lists_of, AreAmong};
 ghost use Rattle.solver.specs.Listing.{ListsBelow, AreSidesBelow, passing_after, filled_after};
 ghost use Rattle.solver.specs.Writing.{GoesAlong, IsWritten, AreLinesOf, with_line};
 
@@ -162,6 +162,7 @@ pub fn roster_of(
     requires solved { IsSolved (certificates frozen.now) level frozen.now.caps (flow_in workspace.now) (sides_in workspace.now) }
     ensures level { IfOk result (λ roster. roster.level ≡ level) }
     ensures proven { IfOk result (λ roster. IsProven (certificates frozen.now) level frozen.now.caps (lists_of roster)) }
+    ensures among { IfOk result (λ roster. AreAmong (certificates frozen.now).accounts (lists_of roster)) }
 {
     let accounts = frozen.accounts();
     let served = served_accounts(alloc, workspace, accounts)?;

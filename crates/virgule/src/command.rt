@@ -67,7 +67,7 @@ impl Command {
     }
 
     fn of_word(word: &str) -> Option<Command>
-        ensures { result ≡ command_of (word.now ∷ []) }
+        ensures command { result ≡ command_of (word.now ∷ []) }
         ensures grades { IfSome result AsksGrades }
     {
         if word == "check" {

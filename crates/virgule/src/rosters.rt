@@ -34,7 +34,7 @@ fn one_line(alloc: Global, frozen: &Arc<Frozen>, level: Level) -> Result<Vec<u8>
 {
     let roster = solve_one(alloc, frozen, level)?;
     let mut text = Vec::new(alloc);
-    push_line(&mut text, frozen.names(), &roster)?;
+    push_line(alloc, &mut text, frozen.names(), &roster)?;
     Ok(text)
 }
 
@@ -44,29 +44,29 @@ fn all_lines(alloc: Global, frozen: &Arc<Frozen>) -> Result<Vec<u8>, NoMemory>
 {
     let candidate = solve_alone(alloc, frozen)?;
     let mut text = Vec::new(alloc);
-    push_grade(&mut text, &candidate, Level::Apprentice)?;
-    push_grade(&mut text, &candidate, Level::Journeyer)?;
-    push_grade(&mut text, &candidate, Level::Master)?;
+    push_grade(alloc, &mut text, &candidate, Level::Apprentice)?;
+    push_grade(alloc, &mut text, &candidate, Level::Journeyer)?;
+    push_grade(alloc, &mut text, &candidate, Level::Master)?;
     Ok(text)
 }
 
 /// Adds the line of a grade's roster.
-fn push_grade(text: &mut Vec<u8>, candidate: &Candidate, level: Level) -> Result<(), NoMemory>
+fn push_grade(alloc: Global, text: &mut Vec<u8>, candidate: &Candidate, level: Level) -> Result<(), NoMemory>
     requires { IsGrade level }
     ensures { OnOk result ((line : List ℕ) × IsRosterLine (of_frozen candidate.now.graph) level line × (text.new.items ≡ text.old.items ++ line)) }
 {
     match candidate.roster(level) {
-        Some(roster) => push_line(text, candidate.frozen().names(), roster),
+        Some(roster) => push_line(alloc, text, candidate.frozen().names(), roster),
         None => Ok(()),
     }
 }
 
 /// Adds the line of a roster: its grade, how many accounts it has, and their names in the order of their numbers.
-fn push_line(text: &mut Vec<u8>, names: &NameIndex, roster: &LevelRoster) -> Result<(), NoMemory>
+fn push_line(alloc: Global, text: &mut Vec<u8>, names: &NameIndex, roster: &LevelRoster) -> Result<(), NoMemory>
     requires { Each (λ a. a < length names.now) roster.now.served.items }
     ensures { OnOk result (text.new.items ≡ text.old.items ++ roster_line names.now roster.now.level roster.now.served.items) }
 {
-    let front = format!(in text.allocator(); "{} {}", roster.level.name(), roster.served.len())?;
+    let front = format!(in alloc; "{} {}", roster.level.name(), roster.served.len())?;
     text.extend_from_slice(front.as_bytes())?;
     push_names(text, names, &roster.served)?;
     text.push(b'\n')?;

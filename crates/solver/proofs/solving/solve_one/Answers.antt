@@ -8,4 +8,4 @@ use Rattle.solver.proofs.solving.solve_one.Goals as goal
 pub returns-clause-sound : goal.returns-clause-sound
 returns-clause-sound c =
     IfOk-weaker c.solve_once.result (IsRosterFor c.args.frozen.now c.args.level) (λ (r : LevelRoster). IsSound c.args.frozen.now c.args.level (lists_of r))
-    (λ r is. sound c.args.frozen.now c.args.level (lists_of r) is.proven) c.solve_once.ensures
+    (λ r is. sound c.args.frozen.now c.args.level (lists_of r) is.proven is.among) c.solve_once.ensures

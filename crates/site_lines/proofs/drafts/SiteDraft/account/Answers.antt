@@ -31,5 +31,5 @@ returns c = λ k is.
     let few : nat_le 100000 (length (accounts k)) ≡ false = grind arith in (
       join c.args.word.now,
       account-ok k c.args.word.now name.0 (ap is_some (sym known) ∙ sym c.if-is_some.ensures) few,
-      draft-join c.args.self.now _ k c.args.word.now c.in-Some.name is name.1 c.in_ok-push.ensures.added c.in_ok-push-2.ensures.items refl few,
+      draft-join c.args.self.now _ k c.args.word.now c.in-Some.name is name.1 c.in_ok-push.ensures.added c.in_ok-push-2.ensures.items refl refl few,
     )

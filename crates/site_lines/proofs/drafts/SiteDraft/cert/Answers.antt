@@ -1,4 +1,4 @@
-use Rattle.std.proofs.Common.{◌≡◌, ◌≢◌, sym, ◌∙◌, refl, false, ℕ, List, Some, nat_eq, bytes_eq}
+use Rattle.std.proofs.Common.{ap, ◌≡◌, ◌≢◌, sym, ◌∙◌, refl, false, ℕ, List, Some, nat_eq, bytes_eq}
 use Rattle.trust_types.specs.declared.graphs.Cert.{Cert}
 use Rattle.trust_types.specs.Levels.{level_of}
 use Rattle.trust_types.specs.NameLists.{number_of}
@@ -22,67 +22,71 @@ returns-in_default-read-2 c = λ k is.
     let giver = cond_some_is _ _ _ c.in-Some-read.ensures in
     cert-bad_taker k c.args.giver.now c.args.taker.now c.args.word.now c.in-Some.level level giver.0 (cond_none _ _ c.in_default-read-2.ensures)
 
+pub returns-in_default-find_giver : goal.returns-in_default-find_giver
+returns-in_default-find_giver c = λ k is.
+    let level : level_of c.args.word.now ≡ Some c.in-Some.level = sym c.of_name.ensures.found ∙ c.in-Some.is in
+    let giver = cond_some_is _ _ _ c.in-Some-read.ensures in
+    let taker = cond_some_is _ _ _ c.in-Some-read-2.ensures in
+    let from : c.find_giver.result ≡ number_of (accounts k) c.args.giver.now = c.find_giver.ensures.found k is ∙ ap (number_of (accounts k)) giver.1 in
+    cert-no_giver k c.args.giver.now c.args.taker.now c.args.word.now c.in-Some.level level giver.0 taker.0 (sym from ∙ c.in_default-find_giver.is)
+
 pub returns-in_default-find : goal.returns-in_default-find
 returns-in_default-find c = λ k is.
     let level : level_of c.args.word.now ≡ Some c.in-Some.level = sym c.of_name.ensures.found ∙ c.in-Some.is in
     let giver = cond_some_is _ _ _ c.in-Some-read.ensures in
     let taker = cond_some_is _ _ _ c.in-Some-read-2.ensures in
-    let from : c.find.result ≡ number_of (accounts k) c.args.giver.now = found c.args.self.now k c.args.giver.now c.in-Some-read.giver _ is giver.1 c.find.ensures in
-    cert-no_giver k c.args.giver.now c.args.taker.now c.args.word.now c.in-Some.level level giver.0 taker.0 (sym from ∙ c.in_default-find.is)
-
-pub returns-in_default-find-2 : goal.returns-in_default-find-2
-returns-in_default-find-2 c = λ k is.
-    let level : level_of c.args.word.now ≡ Some c.in-Some.level = sym c.of_name.ensures.found ∙ c.in-Some.is in
-    let giver = cond_some_is _ _ _ c.in-Some-read.ensures in
-    let taker = cond_some_is _ _ _ c.in-Some-read-2.ensures in
-    let from : c.find.result ≡ number_of (accounts k) c.args.giver.now = found c.args.self.now k c.args.giver.now c.in-Some-read.giver _ is giver.1 c.find.ensures in
-    let to : c.find-2.result ≡ number_of (accounts k) c.args.taker.now = found c.args.self.now k c.args.taker.now c.in-Some-read-2.taker _ is taker.1 c.find-2.ensures in
-    let i : number_of (accounts k) c.args.giver.now ≡ Some c.in-Some-find.from = sym from ∙ c.in-Some-find.is in
-    cert-no_taker k c.args.giver.now c.args.taker.now c.args.word.now c.in-Some.level c.in-Some-find.from level giver.0 taker.0 i (sym to ∙ c.in_default-find-2.is)
+    let from : c.find_giver.result ≡ number_of (accounts k) c.args.giver.now = c.find_giver.ensures.found k is ∙ ap (number_of (accounts k)) giver.1 in
+    let still = c.find_giver.ensures.draft k is in
+    let to : c.find.result ≡ number_of (accounts k) c.args.taker.now = found c.find_giver.new.self k c.args.taker.now c.in-Some-read-2.taker _ still taker.1 c.find.ensures in
+    let i : number_of (accounts k) c.args.giver.now ≡ Some c.in-Some-find_giver.from = sym from ∙ c.in-Some-find_giver.is in
+    cert-no_taker k c.args.giver.now c.args.taker.now c.args.word.now c.in-Some.level c.in-Some-find_giver.from level giver.0 taker.0 i (sym to ∙ c.in_default-find.is)
 
 pub returns-then-eq : goal.returns-then-eq
 returns-then-eq c = λ k is.
     let level : level_of c.args.word.now ≡ Some c.in-Some.level = sym c.of_name.ensures.found ∙ c.in-Some.is in
     let giver = cond_some_is _ _ _ c.in-Some-read.ensures in
     let taker = cond_some_is _ _ _ c.in-Some-read-2.ensures in
-    let from : c.find.result ≡ number_of (accounts k) c.args.giver.now = found c.args.self.now k c.args.giver.now c.in-Some-read.giver _ is giver.1 c.find.ensures in
-    let to : c.find-2.result ≡ number_of (accounts k) c.args.taker.now = found c.args.self.now k c.args.taker.now c.in-Some-read-2.taker _ is taker.1 c.find-2.ensures in
-    let i : number_of (accounts k) c.args.giver.now ≡ Some c.in-Some-find.from = sym from ∙ c.in-Some-find.is in
-    let j : number_of (accounts k) c.args.taker.now ≡ Some c.in-Some-find-2.to = sym to ∙ c.in-Some-find-2.is in
-    cert-self k c.args.giver.now c.args.taker.now c.args.word.now c.in-Some.level c.in-Some-find.from c.in-Some-find-2.to level giver.0 taker.0 i j (sym c.eq.ensures ∙ c.if-eq.true)
+    let from : c.find_giver.result ≡ number_of (accounts k) c.args.giver.now = c.find_giver.ensures.found k is ∙ ap (number_of (accounts k)) giver.1 in
+    let still = c.find_giver.ensures.draft k is in
+    let to : c.find.result ≡ number_of (accounts k) c.args.taker.now = found c.find_giver.new.self k c.args.taker.now c.in-Some-read-2.taker _ still taker.1 c.find.ensures in
+    let i : number_of (accounts k) c.args.giver.now ≡ Some c.in-Some-find_giver.from = sym from ∙ c.in-Some-find_giver.is in
+    let j : number_of (accounts k) c.args.taker.now ≡ Some c.in-Some-find.to = sym to ∙ c.in-Some-find.is in
+    cert-self k c.args.giver.now c.args.taker.now c.args.word.now c.in-Some.level c.in-Some-find_giver.from c.in-Some-find.to level giver.0 taker.0 i j (sym c.eq.ensures ∙ c.if-eq.true)
 
 pub returns-then-not-branch : goal.returns-then-not-branch
 returns-then-not-branch c = λ k is.
     let level : level_of c.args.word.now ≡ Some c.in-Some.level = sym c.of_name.ensures.found ∙ c.in-Some.is in
     let giver = cond_some_is _ _ _ c.in-Some-read.ensures in
     let taker = cond_some_is _ _ _ c.in-Some-read-2.ensures in
-    let from : c.find.result ≡ number_of (accounts k) c.args.giver.now = found c.args.self.now k c.args.giver.now c.in-Some-read.giver _ is giver.1 c.find.ensures in
-    let to : c.find-2.result ≡ number_of (accounts k) c.args.taker.now = found c.args.self.now k c.args.taker.now c.in-Some-read-2.taker _ is taker.1 c.find-2.ensures in
-    let i : number_of (accounts k) c.args.giver.now ≡ Some c.in-Some-find.from = sym from ∙ c.in-Some-find.is in
-    let j : number_of (accounts k) c.args.taker.now ≡ Some c.in-Some-find-2.to = sym to ∙ c.in-Some-find-2.is in
-    let given : Cert = record { from = c.in-Some-find.from; to = c.in-Some-find-2.to; level = c.in-Some.level } in
-    let apart : nat_eq c.in-Some-find.from c.in-Some-find-2.to ≡ false = sym c.eq.ensures ∙ c.if-eq.false in
-    let fits = c.in_ok-push.ensures (certs_of k) is.logged in
-    cert-many k c.args.giver.now c.args.taker.now c.args.word.now c.in-Some.level c.in-Some-find.from c.in-Some-find-2.to level giver.0 taker.0 i j apart (rw (given-push k given) (too_many _ _ c.if-not-branch.true fits.0))
+    let from : c.find_giver.result ≡ number_of (accounts k) c.args.giver.now = c.find_giver.ensures.found k is ∙ ap (number_of (accounts k)) giver.1 in
+    let still = c.find_giver.ensures.draft k is in
+    let to : c.find.result ≡ number_of (accounts k) c.args.taker.now = found c.find_giver.new.self k c.args.taker.now c.in-Some-read-2.taker _ still taker.1 c.find.ensures in
+    let i : number_of (accounts k) c.args.giver.now ≡ Some c.in-Some-find_giver.from = sym from ∙ c.in-Some-find_giver.is in
+    let j : number_of (accounts k) c.args.taker.now ≡ Some c.in-Some-find.to = sym to ∙ c.in-Some-find.is in
+    let given : Cert = record { from = c.in-Some-find_giver.from; to = c.in-Some-find.to; level = c.in-Some.level } in
+    let apart : nat_eq c.in-Some-find_giver.from c.in-Some-find.to ≡ false = sym c.eq.ensures ∙ c.if-eq.false in
+    let fits = c.in_ok-push.ensures (certs_of k) still.logged in
+    cert-many k c.args.giver.now c.args.taker.now c.args.word.now c.in-Some.level c.in-Some-find_giver.from c.in-Some-find.to level giver.0 taker.0 i j apart (rw (given-push k given) (too_many _ _ c.if-not-branch.true fits.0))
 
 pub returns : goal.returns
 returns c = λ k is.
     let level : level_of c.args.word.now ≡ Some c.in-Some.level = sym c.of_name.ensures.found ∙ c.in-Some.is in
     let giver = cond_some_is _ _ _ c.in-Some-read.ensures in
     let taker = cond_some_is _ _ _ c.in-Some-read-2.ensures in
-    let from : c.find.result ≡ number_of (accounts k) c.args.giver.now = found c.args.self.now k c.args.giver.now c.in-Some-read.giver _ is giver.1 c.find.ensures in
-    let to : c.find-2.result ≡ number_of (accounts k) c.args.taker.now = found c.args.self.now k c.args.taker.now c.in-Some-read-2.taker _ is taker.1 c.find-2.ensures in
-    let i : number_of (accounts k) c.args.giver.now ≡ Some c.in-Some-find.from = sym from ∙ c.in-Some-find.is in
-    let j : number_of (accounts k) c.args.taker.now ≡ Some c.in-Some-find-2.to = sym to ∙ c.in-Some-find-2.is in
-    let given : Cert = record { from = c.in-Some-find.from; to = c.in-Some-find-2.to; level = c.in-Some.level } in
-    let apart : nat_eq c.in-Some-find.from c.in-Some-find-2.to ≡ false = sym c.eq.ensures ∙ c.if-eq.false in
-    let fits = c.in_ok-push.ensures (certs_of k) is.logged in
-    let others : c.in-Some-find.from ≢ c.in-Some-find-2.to = apart_from _ _ apart in (
-      cert c.in-Some-find.from c.in-Some-find-2.to c.in-Some.level,
-      cert-ok k c.args.giver.now c.args.taker.now c.args.word.now c.in-Some.level c.in-Some-find.from c.in-Some-find-2.to level giver.0 taker.0 i j apart (rw (given-push k given) (not_many _ _ c.if-not-branch.false fits.0)),
-      draft-cert c.args.self.now _ k given is (record {
+    let from : c.find_giver.result ≡ number_of (accounts k) c.args.giver.now = c.find_giver.ensures.found k is ∙ ap (number_of (accounts k)) giver.1 in
+    let still = c.find_giver.ensures.draft k is in
+    let to : c.find.result ≡ number_of (accounts k) c.args.taker.now = found c.find_giver.new.self k c.args.taker.now c.in-Some-read-2.taker _ still taker.1 c.find.ensures in
+    let i : number_of (accounts k) c.args.giver.now ≡ Some c.in-Some-find_giver.from = sym from ∙ c.in-Some-find_giver.is in
+    let j : number_of (accounts k) c.args.taker.now ≡ Some c.in-Some-find.to = sym to ∙ c.in-Some-find.is in
+    let given : Cert = record { from = c.in-Some-find_giver.from; to = c.in-Some-find.to; level = c.in-Some.level } in
+    let apart : nat_eq c.in-Some-find_giver.from c.in-Some-find.to ≡ false = sym c.eq.ensures ∙ c.if-eq.false in
+    let fits = c.in_ok-push.ensures (certs_of k) still.logged in
+    let others : c.in-Some-find_giver.from ≢ c.in-Some-find.to = apart_from _ _ apart in (
+      cert c.in-Some-find_giver.from c.in-Some-find.to c.in-Some.level,
+      cert-ok k c.args.giver.now c.args.taker.now c.args.word.now c.in-Some.level c.in-Some-find_giver.from c.in-Some-find.to level giver.0 taker.0 i j apart (rw (given-push k given) (not_many _ _ c.if-not-branch.false fits.0)),
+      draft-cert c.find_giver.new.self _ k given still (record {
         giver = below (λ (m : List ℕ). bytes_eq m c.args.giver.now) (accounts k) _ i;
         taker = below (λ (m : List ℕ). bytes_eq m c.args.taker.now) (accounts k) _ j;
         others = others;
-      }) refl refl (fits.1 c.if-not-branch.false),
+      }) refl refl (fits.1 c.if-not-branch.false) refl,
     )

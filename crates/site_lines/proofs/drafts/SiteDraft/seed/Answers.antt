@@ -29,5 +29,5 @@ returns c = λ k is.
     let n : number_of (accounts k) c.args.word.now ≡ Some i = sym known ∙ c.in-Some-find.is in (
       seed i,
       seed-ok k c.args.word.now i name.0 n (sym (is.seeded i) ∙ sym c.mark.ensures.was ∙ c.if-mark.false),
-      draft-seed c.args.self.now _ k i is (below (λ (m : List ℕ). bytes_eq m c.args.word.now) (accounts k) i n) refl c.mark.ensures.is refl,
+      draft-seed c.args.self.now _ k i is (below (λ (m : List ℕ). bytes_eq m c.args.word.now) (accounts k) i n) refl c.mark.ensures.is refl refl,
     )
