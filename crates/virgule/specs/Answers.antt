@@ -1,5 +1,5 @@
 -- What the program answers to the bytes that it read.
-use Rattle.std.specs.Prelude.{ℕ, ◌≡◌, List, ◌++◌, codes, decimal, length, flat_map, Result, Ok, Err}
+use Rattle.std.specs.Prelude.{ℕ, ◌≡◌, List, ◌∷◌, ◌++◌, codes, decimal, length, flat_map, Result, Ok, Err}
 use Rattle.std.specs.List.Sorted.{IsStrictlyIncreasing}
 use Rattle.trust_types.specs.declared.levels.Level.{Level}
 use Rattle.trust_types.specs.declared.levels.Level.TheVariants.{Apprentice, Journeyer, Master}
@@ -43,10 +43,10 @@ pub record IsJudged (proof : Proof) (answer : Answer) : Type 0 where
   pub status : answer.status ≡ status_for verdict
   pub text : answer.text.items ≡ verdict_line proof.names.items verdict
 
--- The line of a roster: the grade, how many are accepted, and their names.
+-- The line of a roster: the grade, how many are accepted, and their names, each behind a space.
 abbrev pub roster_line : List (List ℕ) → Level → List ℕ → List ℕ
 roster_line names level served =
-    level_name level ++ codes " " ++ decimal (length served) ++ flat_map (λ a. codes " " ++ name_of names a) served ++ codes "\n"
+    level_name level ++ codes " " ++ decimal (length served) ++ flat_map (λ a. 32 ∷ name_of names a) served ++ codes "\n"
 
 -- The line of a roster of the site at a grade: the accounts that a greatest flow with served conduits serves, in order. Of
 -- every set of accounts without a seed at most its bound is among them.

@@ -57,13 +57,11 @@ impl Command {
         ensures command { result ≡ command_of (map (λ word. word.now) words.now) }
         ensures grades { IfSome result AsksGrades }
     {
-        if let [word] = words {
-            return Command::of_word(word);
+        match words {
+            [word] => Command::of_word(word),
+            [word, level] => Command::of_pair(word, level),
+            _ => None,
         }
-        if let [word, level] = words {
-            return Command::of_pair(word, level);
-        }
-        None
     }
 
     fn of_word(word: &str) -> Option<Command>

@@ -1,6 +1,6 @@
 //! Rosters as they are printed.
 
-ghost use Rattle.std.specs.Prelude.{ℕ, List, ◌≡◌, ◌<◌, ◌++◌, All as Each, IfOk, OnOk, length, flat_map, codes};
+ghost use Rattle.std.specs.Prelude.{ℕ, List, ◌≡◌, ◌<◌, ◌∷◌, ◌++◌, All as Each, IfOk, OnOk, length, flat_map};
 ghost use Rattle.trust_types.specs.Levels.{IsGrade};
 ghost use Rattle.site_text.specs.View.{of_frozen};
 ghost use Rattle.cut_check.specs.Line.{name_of};
@@ -51,7 +51,12 @@ fn all_lines(alloc: Global, frozen: &Arc<Frozen>) -> Result<Vec<u8>, NoMemory>
 }
 
 /// Adds the line of a grade's roster.
-fn push_grade(alloc: Global, text: &mut Vec<u8>, candidate: &Candidate, level: Level) -> Result<(), NoMemory>
+fn push_grade(
+    alloc: Global,
+    text: &mut Vec<u8>,
+    candidate: &Candidate,
+    level: Level,
+) -> Result<(), NoMemory>
     requires { IsGrade level }
     ensures { OnOk result ((line : List ℕ) × IsRosterLine (of_frozen candidate.now.graph) level line × (text.new.items ≡ text.old.items ++ line)) }
 {
@@ -62,7 +67,12 @@ fn push_grade(alloc: Global, text: &mut Vec<u8>, candidate: &Candidate, level: L
 }
 
 /// Adds the line of a roster: its grade, how many accounts it has, and their names in the order of their numbers.
-fn push_line(alloc: Global, text: &mut Vec<u8>, names: &NameIndex, roster: &LevelRoster) -> Result<(), NoMemory>
+fn push_line(
+    alloc: Global,
+    text: &mut Vec<u8>,
+    names: &NameIndex,
+    roster: &LevelRoster,
+) -> Result<(), NoMemory>
     requires { Each (λ a. a < length names.now) roster.now.served.items }
     ensures { OnOk result (text.new.items ≡ text.old.items ++ roster_line names.now roster.now.level roster.now.served.items) }
 {
@@ -76,11 +86,20 @@ fn push_line(alloc: Global, text: &mut Vec<u8>, names: &NameIndex, roster: &Leve
 /// Adds the names of these accounts, each behind a space.
 fn push_names(text: &mut Vec<u8>, names: &NameIndex, accounts: &[AccountNo]) -> Result<(), NoMemory>
     requires { Each (λ a. a < length names.now) accounts.now }
-    ensures { OnOk result (text.new.items ≡ text.old.items ++ flat_map (λ a. codes " " ++ name_of names.now a) accounts.now) }
+    ensures { OnOk result (text.new.items ≡ text.old.items ++ flat_map (λ a. 32 ∷ name_of names.now a) accounts.now) }
 {
     for account in accounts {
-        text.push(b' ')?;
-        text.extend_from_slice(names.name(*account).bytes())?;
+        push_name(text, names, *account)?;
     }
+    Ok(())
+}
+
+/// Adds the name of an account behind a space.
+fn push_name(text: &mut Vec<u8>, names: &NameIndex, account: AccountNo) -> Result<(), NoMemory>
+    requires { account < length names.now }
+    ensures { OnOk result (text.new.items ≡ text.old.items ++ 32 ∷ name_of names.now account) }
+{
+    text.push(b' ')?;
+    text.extend_from_slice(names.name(account).bytes())?;
     Ok(())
 }
