@@ -4,5 +4,7 @@
 mod reading;
 mod searches;
 mod solving;
+#[cfg(test)]
+mod tests;
 
 pub use solving::Workspace;
