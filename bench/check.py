@@ -4,8 +4,8 @@
     bench/check.py [RUNS]
 
 Each text has 100,000 accounts and 2,000,000 certificates, and its verdict is `greatest 1999`: one canonical, and one with the
-same certificates in random order. The aim is at most five times the time of `sha256sum` on each. Nothing depends on
-it. The program is built first where it has to be. The two programs run in turn, each so many times (5 where none is named), and
+same certificates in random order. The aim is at most five times the time of `sha256sum` on each. Nothing depends on these
+numbers. The program is built first where it has to be. The two programs run in turn, each so many times (5 where none is named), and
 the least of each time and the most memory are shown.
 """
 

@@ -6,7 +6,7 @@
 The sites are those of `graphs.py`, one of each kind, with 100,000 accounts and about 2,000,000 certificates. For each kind it
 shows the user seconds of both programs, for LEMON's also those of its three solves alone, the most memory that each one held, that of
 virgule also as a multiple of the text's size (the aim is at most six), and whether both accept equally many accounts at each
-level. Then `check` reads the audit of one of these sites, beside `sha256sum` on it. Nothing depends on any of this.
+level. Then `check` reads the audit of one of these sites, beside `sha256sum` on it. Nothing depends on these numbers.
 
 The programs run in turn, each so many times (3 where none is named), and the least time and the most memory are shown.
 virgule is built first where it has to be; the other needs `g++` and LEMON's headers (Debian's `liblemon-dev`).
