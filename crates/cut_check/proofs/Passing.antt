@@ -32,7 +32,7 @@ out-none : {g : Certificates} {level : Level} {cap : Node → ℕ} {f : Flow} �
     units_out g.accounts f (Account a) ≡ 0
 out-none {g} {level} {cap} {f} fits a past =
     sum_below-eq g.accounts (f (Account a)) (λ _. 0) (λ b _. none (f (Account a) b) (λ some.
-        let here : a < g.accounts = giver_is g level a b (fits.edges (Account a) b some) in omega (arith, here, past)))
+    let here : a < g.accounts = giver_is g level a b (fits.edges (Account a) b some) in omega (arith, here, past)))
     ∙ sum_below-zero g.accounts
 
 unit-none : {g : Certificates} {level : Level} {cap : Node → ℕ} {f : Flow} → IsFeasible g level cap f → (x : Node) (b : ℕ) → g.accounts ≤ b →
@@ -44,7 +44,7 @@ in-none : {g : Certificates} {level : Level} {cap : Node → ℕ} {f : Flow} →
     units_in g.accounts f b ≡ 0
 in-none {g} {level} {cap} {f} fits b past =
     let rest : sum_below g.accounts (λ a. f (Account a) b) ≡ 0 =
-        sum_below-eq g.accounts (λ a. f (Account a) b) (λ _. 0) (λ a _. unit-none fits (Account a) b past) ∙ sum_below-zero g.accounts in
+    sum_below-eq g.accounts (λ a. f (Account a) b) (λ _. 0) (λ a _. unit-none fits (Account a) b past) ∙ sum_below-zero g.accounts in
     omega (arith, unit-none fits Root b past, rest)
 
 balanced : {g : Certificates} {level : Level} {cap : Node → ℕ} {f : Flow} → IsFeasible g level cap f → (a : ℕ) → IsBalanced g.accounts f a

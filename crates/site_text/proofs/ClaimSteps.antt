@@ -1,6 +1,6 @@
 -- Each line of a canonical text's claim adds its line of the flow, or its node.
 use Rattle.std.proofs.Common.{◌≡◌, ◌≢◌, ℕ, ◌<◌, ◌≤◌, ◌^◌, Bool, true, false, List, [], ◌∷◌, ◌++◌, length, get_or, Some, Ok, All, Contains, refl, ap, ◌∙◌, arith, map, codes, subst, decimal}
-use Rattle.std.specs.List.{list_any, list_all, join_with_byte}
+use Rattle.std.specs.List.{list_any, list_all}
 use Rattle.std.proofs.lemmas.Bool.Decides.{nat_tests}
 use Rattle.std.proofs.lemmas.List.Elements.{Contains-get_or}
 use Rattle.std.proofs.lemmas.List.Folds.{list_any_none}
@@ -20,11 +20,8 @@ use Rattle.cut_check.specs.Line.{name_of, node_name}
 use Rattle.roster_form.specs.LevelRosters.{AreAmong}
 use Rattle.site_text.specs.Canonical.{flow_words, pass_words, full_words}
 use Rattle.site_text.proofs.Spelling.{AreNames, name_at, number_of-name, is_node-name, node_of-name, units_of-decimal}
-use Rattle.site_text.proofs.Wording.{flow-worded, pass-worded, full-worded}
+use Rattle.site_text.proofs.Wording.{spaced, flow-worded, pass-worded, full-worded}
 use Rattle.site_text.proofs.Placed.{IsPlaced, placed, of_all, of_pairs}
-
-abbrev spaced : List (List ℕ) → List ℕ
-spaced ws = join_with_byte 32 ws
 
 abbrev pub claimed : List FlowLine → List Node → List Node → Claim
 claimed flow pass full = record { flow = flow; pass = pass; full = full }

@@ -1,8 +1,6 @@
 -- What the parts of a text that were read say of the whole.
-use Rattle.std.proofs.Common.{ℕ, ◌≡◌, ◌+◌, Bool, true, false, ◌&&◌, List, [], ◌∷◌, ◌++◌, Result, Ok, Err, length, refl, ap, sym, subst, ◌∙◌, codes, cond, arith, if◌then◌else◌}
+use Rattle.std.proofs.Common.{ℕ, ◌≡◌, ◌+◌, Bool, true, false, ◌&&◌, List, [], ◌∷◌, Result, Ok, Err, length, refl, ap, sym, subst, ◌∙◌, codes, arith, if◌then◌else◌}
 use Rattle.std.specs.Prelude.{IfSome}
-use Rattle.std.specs.Str.{bytes_eq}
-use Rattle.std.specs.List.{position_or_len}
 use Rattle.std.proofs.lemmas.Slice.Eq.{bytes_eq-Decides}
 use Rattle.trust_types.specs.declared.levels.Level.{Level}
 use Rattle.trust_types.specs.declared.records.Record.{Record}
@@ -13,9 +11,9 @@ use Rattle.text_lines.specs.declared.faults.TextFault.{TextFault}
 use Rattle.text_lines.specs.Words.{words, is_line}
 use Rattle.text_lines.specs.Reading.{reading}
 use Rattle.text_lines.specs.Steps.{◌>>=◌, at_line}
-use Rattle.site_lines.specs.Site.{caps_line, caps_form, site_line, form}
+use Rattle.site_lines.specs.Site.{caps_line, caps_form, site_line}
 use Rattle.claim_lines.specs.Claim.{Claim, nothing, is_level_line, begins_with_level, level_line, claim_line, has_root}
-use Rattle.site_text.specs.Site.{SiteText, ProofText, fault, site_of, proof_of, claim_of, site_part, claim_part}
+use Rattle.site_text.specs.Site.{fault, site_of, proof_of, claim_of, site_part, claim_part}
 use Rattle.site_text.specs.declared.faults.SiteFault.{SiteFault}
 use Rattle.site_text.specs.declared.faults.SiteFault.TheVariants.{Text, NoMemory}
 use Rattle.site_text.specs.Faults.{fault_of}

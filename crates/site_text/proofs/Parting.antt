@@ -1,5 +1,5 @@
 -- The lines of a text up to its `level` line, and from it on.
-use Rattle.std.proofs.Common.{ℕ, suc, ◌≡◌, ◌+◌, List, [], ◌∷◌, ◌++◌, true, false, length, take, drop, refl, arith}
+use Rattle.std.proofs.Common.{ℕ, suc, ◌≡◌, ◌+◌, List, [], ◌∷◌, true, false, length, take, drop, refl, arith}
 use Rattle.std.specs.List.{position_or_len}
 use native.Mathlib.Numerals.{unary_clauses}
 use Rattle.claim_lines.specs.Claim.{is_level_line}

@@ -1,9 +1,8 @@
 -- What is known of a whole text once its parts were read.
-use Rattle.std.proofs.Common.{ℕ, suc, ◌≡◌, ◌+◌, ◌≤◌, Bool, true, false, ◌&&◌, not, List, [], ◌∷◌, ◌++◌, Result, Ok, Err, length, take, drop, refl, ap, sym, subst, ◌∙◌, codes, cond, arith, if◌then◌else◌}
+use Rattle.std.proofs.Common.{ℕ, ◌≡◌, ◌+◌, ◌≤◌, Bool, true, false, ◌&&◌, not, List, [], ◌∷◌, ◌++◌, Result, Ok, Err, length, refl, ap, sym, subst, ◌∙◌, codes, arith, if◌then◌else◌}
 use Rattle.std.specs.Prelude.{IfSome}
 use Rattle.std.specs.List.{position_or_len, onto_first}
-use Rattle.std.specs.Str.{bytes_eq}
-use Rattle.std.proofs.lemmas.List.{take-append-drop, length-append, append-nil, length_push}
+use Rattle.std.proofs.lemmas.List.{take-append-drop, append-nil, length_push}
 use Rattle.std.proofs.lemmas.Slice.Eq.{bytes_eq-Decides}
 use Rattle.trust_types.specs.declared.records.Record.{Record}
 use Rattle.text_lines.specs.declared.faults.TextKind.{TextKind}
@@ -20,7 +19,7 @@ use Rattle.site_text.specs.declared.faults.SiteFault.{SiteFault}
 use Rattle.site_text.specs.declared.faults.SiteFault.TheVariants.{Text, NoMemory}
 use Rattle.site_text.specs.Faults.{fault_of}
 use Rattle.site_text.specs.Site.{fault, site_part, claim_part}
-use Rattle.site_text.proofs.Parting.{site_part-more, claim_part-more, claim_part-level, length-first}
+use Rattle.site_text.proofs.Parting.{claim_part-more, claim_part-level}
 
 value_in : {A E : Type 0} → A → Result A E → A
 value_in other (Ok x) = x

@@ -1,7 +1,7 @@
 -- A canonical text is read again as a proof over the same site, of the same level, flow and cut.
 use Rattle.std.proofs.Common.{◌≡◌, ◌≢◌, ℕ, ◌+◌, ◌<◌, Bool, true, false, ◌&&◌, ◌||◌, not, if◌then◌else◌, List, [], ◌∷◌, ◌++◌, length, take, drop, get_or, Ok, All, IsTrue, refl, ap, ◌∙◌, arith, map, nat_lt, append_assoc}
 use Rattle.std.specs.Prelude.{flat_map}
-use Rattle.std.specs.List.{list_any, list_all, join_with_byte, position_or_len}
+use Rattle.std.specs.List.{list_any, list_all, position_or_len}
 use Rattle.std.specs.List.Sorted.{IsStrictlyIncreasing}
 use Rattle.std.proofs.lemmas.Bool.Decides.{nat_tests}
 use Rattle.std.proofs.lemmas.Simd.{map-map}
@@ -27,14 +27,11 @@ use Rattle.site_text.specs.Site.{SiteText, ProofText, site_of, site_part, claim_
 use Rattle.site_text.specs.View.{View}
 use Rattle.site_text.specs.Canonical.{line, caps_words, account_words, seed_words, cert_words, level_words, flow_words, pass_words, full_words, site_words, claim_words, IsCanonical, IsReadAs}
 use Rattle.site_text.proofs.Spelling.{AreNames}
-use Rattle.site_text.proofs.Wording.{IsWorded, AreWorded, all_words, all-worded, caps-worded, account-worded, seed-worded, cert-worded, level-worded, flow-worded, pass-worded, full-worded}
+use Rattle.site_text.proofs.Wording.{spaced, IsWorded, AreWorded, all_words, all-worded, caps-worded, account-worded, seed-worded, cert-worded, level-worded, flow-worded, pass-worded, full-worded}
 use Rattle.site_text.proofs.Recorded.{records, accounts-records, certificates-records}
 use Rattle.site_text.proofs.SiteSteps.{site_lines, reading-site}
 use Rattle.site_text.proofs.ClaimSteps.{AreWritable, claimed, claim_lines, reading-claim}
 use Rattle.site_text.proofs.CapsLine.{caps_line-words}
-
-abbrev spaced : List (List ℕ) → List ℕ
-spaced ws = join_with_byte 32 ws
 
 -- The lines of a text of such lines.
 lines-words : (wss : List (List (List ℕ))) → AreWorded wss → lines (flat_map line wss) ≡ map spaced wss

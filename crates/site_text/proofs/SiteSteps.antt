@@ -1,6 +1,6 @@
 -- Each line of a canonical text's site adds its record.
 use Rattle.std.proofs.Common.{◌≡◌, ◌≢◌, ℕ, ◌<◌, ◌≤◌, true, false, List, [], ◌∷◌, ◌++◌, length, get_or, Some, None, Ok, All, refl, ap, sym, ◌∙◌, arith, nat_lt, nat_le, append_assoc, map, codes, ◌==◌}
-use Rattle.std.specs.List.{list_all, join_with_byte}
+use Rattle.std.specs.List.{list_all}
 use Rattle.std.specs.List.Sorted.{IsStrictlyIncreasing}
 use Rattle.std.proofs.lemmas.Bool.Decides.{nat_tests}
 use Rattle.std.proofs.lemmas.List.{map-append, append-nil, length_push}
@@ -22,12 +22,9 @@ use Rattle.site_lines.specs.Site.{join, seed, cert, account_line, seed_line, cer
 use Rattle.cut_check.specs.Line.{name_of}
 use Rattle.site_text.specs.Canonical.{account_words, seed_words, cert_words}
 use Rattle.site_text.proofs.Spelling.{AreNames, name_at, number_of-name, level_of-name}
-use Rattle.site_text.proofs.Wording.{account-worded, seed-worded, cert-worded}
+use Rattle.site_text.proofs.Wording.{spaced, account-worded, seed-worded, cert-worded}
 use Rattle.site_text.proofs.Placed.{IsPlaced, placed, of_all, of_pairs}
 use Rattle.site_text.proofs.Recorded.{records, cert_record, accounts-records, certs-records, is_seed-records, is_among, standing_count-le}
-
-abbrev spaced : List (List ℕ) → List ℕ
-spaced ws = join_with_byte 32 ws
 
 pub site_line-join : (k : List Record) (ws : List (List ℕ)) (x : Record) → 0 < length ws → list_all is_word ws ≡ true → form k ws ≡ Ok x →
     site_line k (spaced ws) ≡ Ok (k ++ x ∷ [])

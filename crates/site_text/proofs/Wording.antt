@@ -1,6 +1,6 @@
 -- Each line of a canonical text is made of words.
 use Rattle.std.proofs.Common.{◌≡◌, ℕ, ◌<◌, ◌≤◌, ◌^◌, Bool, true, List, [], ◌∷◌, length, get_or, All, refl, arith, map, decimal}
-use Rattle.std.specs.List.{list_all}
+use Rattle.std.specs.List.{list_all, join_with_byte}
 use Rattle.std.proofs.lemmas.Grind.{get_or_default_zero}
 use Rattle.std.proofs.lemmas.List.Elements.{All-head, All-tail}
 use Rattle.trust_types.specs.declared.levels.Level.{Level}
@@ -17,6 +17,10 @@ use Rattle.text_lines.proofs.Joining.{and_true}
 use Rattle.cut_check.specs.Line.{name_of, node_name}
 use Rattle.site_text.specs.Canonical.{caps_words, account_words, seed_words, cert_words, level_words, flow_words, pass_words, full_words}
 use Rattle.site_text.proofs.Spelling.{AreNames, name_at, is_word-name, is_word-level, node_word}
+
+-- Words with a space between each two.
+abbrev pub spaced : List (List ℕ) → List ℕ
+spaced ws = join_with_byte 32 ws
 
 abbrev pub IsWorded : List (List ℕ) → Type 0
 IsWorded ws = list_all is_word ws ≡ true

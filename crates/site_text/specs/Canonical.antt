@@ -1,5 +1,5 @@
 -- The canonical text of a proof: its lines in one order, each with its words in one spelling.
-use Rattle.std.specs.Prelude.{ℕ, ◌≡◌, ◌≤◌, ◌<◌, List, [], ◌∷◌, ◌++◌, length, map, flat_map, codes, decimal, All, Ok}
+use Rattle.std.specs.Prelude.{ℕ, ◌≡◌, List, [], ◌∷◌, ◌++◌, length, map, flat_map, codes, decimal, Ok}
 use Rattle.std.specs.List.{join_with_byte}
 use Rattle.std.specs.List.Sorted.{IsStrictlyIncreasing}
 use Rattle.trust_types.specs.declared.levels.Level.{Level}
@@ -8,7 +8,6 @@ use Rattle.trust_types.specs.declared.graphs.Cert.{Cert}
 use Rattle.trust_types.specs.declared.flows.FlowLine.{FlowLine}
 use Rattle.trust_types.specs.Levels.{level_name}
 use Rattle.trust_types.specs.Certs.{CanStand, IsMadeOf}
-use Rattle.trust_types.specs.Lines.{place}
 use Rattle.trust_types.specs.Proven.{Lists, IsProven}
 use Rattle.cut_check.specs.Line.{name_of, node_name}
 use Rattle.site_text.specs.Site.{ProofText, proof}

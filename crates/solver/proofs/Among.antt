@@ -1,5 +1,5 @@
 -- Lists written from a solution name accounts of the graph alone.
-use Rattle.std.proofs.Common.{ℕ, ◌+◌, ◌≡◌, ◌<◌, ◌≤◌, ◌==◌, ◌&&◌, if◌then◌else◌, List, length, get_or, Contains, refl, subst, arith}
+use Rattle.std.proofs.Common.{ℕ, ◌+◌, ◌≡◌, ◌<◌, ◌≤◌, ◌==◌, ◌&&◌, if◌then◌else◌, length, get_or, refl, arith}
 use Rattle.std.proofs.lemmas.Bool.{eq-eqb}
 use Rattle.std.proofs.lemmas.List.Elements.{Contains-get_or}
 use Rattle.std.proofs.lemmas.List.Sums.{get_or-le-sum_by}
@@ -8,7 +8,7 @@ use Rattle.trust_types.specs.declared.accounts.Node.{Node}
 use Rattle.trust_types.specs.declared.accounts.Node.TheVariants.{Root, Account}
 use Rattle.trust_types.specs.declared.flows.FlowLine.{FlowLine}
 use Rattle.trust_types.specs.Graph.{Certificates, HasEdge}
-use Rattle.trust_types.specs.Lines.{place, same_node, flow_of}
+use Rattle.trust_types.specs.Lines.{place, same_node}
 use Rattle.trust_types.proofs.Walks.{edge_within}
 use Rattle.roster_form.specs.LevelRosters.{AreAmong}
 use Rattle.solver.proofs.Proving.{Written, lists}
@@ -28,7 +28,7 @@ line_edge : (w : Written) (k : ℕ) (d : FlowLine) → k < length w.lines → Ha
 line_edge w k d within =
     let l : FlowLine = get_or w.lines k d in
     let some : 0 < w.f l.from l.to =
-        omega (arith, w.units.some k d within, get_or-le-sum_by (carried l.from l.to) w.lines k d within, carried_here l, w.units.units l.from l.to) in
+    omega (arith, w.units.some k d within, get_or-le-sum_by (carried l.from l.to) w.lines k d within, carried_here l, w.units.units l.from l.to) in
     w.solved.greatest.feasible.edges l.from l.to some
 
 pub among : (w : Written) → AreAmong w.g.accounts (lists w)

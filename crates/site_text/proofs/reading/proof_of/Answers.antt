@@ -1,4 +1,4 @@
-use Rattle.std.proofs.Common.{ℕ, ◌≡◌, List, length, refl, ap, subst, ◌∙◌, rules}
+use Rattle.std.proofs.Common.{◌≡◌, length, refl, ap, subst, ◌∙◌, rules}
 use Rattle.std.specs.Vec.{vec_len}
 use Rattle.trust_types.specs.Kept.{accounts}
 use Rattle.trust_types.specs.Certs.{IsMadeOf}

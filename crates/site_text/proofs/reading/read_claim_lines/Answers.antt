@@ -1,4 +1,4 @@
-use Rattle.std.proofs.Common.{ℕ, ◌≡◌, ◌+◌, ◌∷◌, List, length, ap, sym, ◌∙◌, arith}
+use Rattle.std.proofs.Common.{ℕ, ◌≡◌, ◌+◌, List, length, ap, sym, ◌∙◌, arith}
 use Rattle.text_lines.specs.Words.{lines}
 use Rattle.text_lines.specs.Reading.{reading, fault_at}
 use Rattle.text_lines.proofs.Following.{reading-more, reading-end, reading-refused}

@@ -1,4 +1,4 @@
-use Rattle.std.proofs.Common.{ℕ, ◌≡◌, ◌+◌, ◌≤◌, ◌<◌, [], ◌∷◌, List, Ok, Err, length, map, All, refl, subst, ap, sym, ◌∙◌, arith, rules}
+use Rattle.std.proofs.Common.{ℕ, ◌≡◌, ◌+◌, ◌<◌, [], ◌∷◌, List, Ok, Err, length, All, subst, ap, sym, ◌∙◌, arith, rules}
 use Rattle.std.specs.Vec.{vec_len}
 use Rattle.std.specs.Prelude.{option_map}
 use Rattle.std.proofs.lemmas.Result.{err_from_is_err_and}
@@ -10,12 +10,10 @@ use Rattle.frozen.specs.Revision.{certificates}
 use Rattle.text_lines.specs.Words.{lines}
 use Rattle.text_lines.specs.Reading.{reading}
 use Rattle.text_lines.specs.declared.faults.TextKind.TheVariants.{BadLine}
-use Rattle.text_lines.specs.declared.faults.TextFault.{TextFault}
-use Rattle.site_lines.specs.Site.{site_line, caps_line}
+use Rattle.site_lines.specs.Site.{site_line}
 use Rattle.site_lines.proofs.Graphs.{parts_graph}
 use Rattle.site_text.specs.Site.{site, fault, site_part, claim_part}
 use Rattle.site_text.specs.View.{IsFrozenOf}
-use Rattle.site_text.specs.Faults.{fault_of}
 use Rattle.site_text.specs.Parts.{table_of, claim_from, claim_number}
 use Rattle.site_text.proofs.Composing.{site-read, site-refused, site-untabled}
 use Rattle.site_text.proofs.Reaching.{exits, front-refused, level-refused, whole-read, reading-length, lines-le, both_parts}

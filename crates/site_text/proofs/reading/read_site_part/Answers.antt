@@ -7,7 +7,6 @@ use Rattle.site_lines.specs.Site.{site_line}
 use Rattle.site_lines.specs.Drafts.{IsSiteDraft}
 use Rattle.site_text.specs.Site.{site_part, claim_part}
 use Rattle.site_text.specs.Faults.{fault_of}
-use Rattle.site_text.specs.Parts.{IsPart}
 use Rattle.site_text.proofs.Parting.{site_part-more, site_part-level, claim_part-more, length-first}
 use Rattle.site_text.proofs.reading.read_site_part.Goals as goal
 
