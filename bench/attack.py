@@ -1,15 +1,17 @@
 #!/usr/bin/env python3
 """An attack that grows: a community, and made-up accounts behind three bridges.
 
-    bench/attack.py
+    bench/attack.py          prints the table
+    bench/attack.py NUMBER   prints the site text with so many made-up accounts
 
-To `examples/community.site` it adds 10, 100, 1,000 and 10,000 accounts that certify each other at Master, and three members who
-certify one of them each. For each number it prints how many of the made-up accounts `virgule rosters Master` accepts, the bound
-of their set, and how many members are accepted. The bound is worked out here anew: over the members who certify into the
-set, the sum of capacity minus one.
+To `examples/community.site` it adds accounts that certify each other at Master, and three members who certify one of them
+each. For 10, 100, 1,000 and 10,000 of them the table says how many of the made-up accounts `virgule rosters Master` accepts, the
+bound of their set, and how many members are accepted. The bound is worked out here anew: over the members who certify into
+the set, the sum of capacity minus one. Nothing depends on this table: that the bound holds is proved.
 """
 
 import subprocess
+import sys
 from collections import deque
 from pathlib import Path
 
@@ -25,6 +27,11 @@ def attack(size):
         for other in sorted({(number + 1) % size, (2 * number + 1) % size, (3 * number + 2) % size} - {number}):
             yield f"cert x{number} x{other} Master"
     yield from (f"cert {member} x{place} Master" for place, member in enumerate(BRIDGES))
+
+
+def attacked(size):
+    """The lines of the community with so many made-up accounts behind the bridges."""
+    return (TOP / "examples" / "community.site").read_text().splitlines() + list(attack(size))
 
 
 def bound(lines):
@@ -47,11 +54,10 @@ def bound(lines):
     return sum(capacity.get(member, 1) - 1 for member in BRIDGES)
 
 
-def main():
-    community = (TOP / "examples" / "community.site").read_text().splitlines()
+def print_table():
     print(f"{'made up':>8} {'accepted':>9} {'bound':>6} {'members':>8}")
     for size in SIZES:
-        lines = community + list(attack(size))
+        lines = attacked(size)
         run = subprocess.run(
             [TOP / "virgule", "rosters", "Master"],
             input="\n".join(lines) + "\n",
@@ -62,6 +68,16 @@ def main():
         accepted = run.stdout.split()[2:]
         made_up = sum(name[0] == "x" and name[1:].isdigit() for name in accepted)
         print(f"{size:>8} {made_up:>9} {bound(lines):>6} {len(accepted) - made_up:>8}")
+
+
+def main():
+    words = sys.argv[1:]
+    if not words:
+        print_table()
+    elif len(words) == 1 and words[0].isdecimal() and int(words[0]) >= len(BRIDGES):
+        print("\n".join(attacked(int(words[0]))))
+    else:
+        sys.exit("usage: bench/attack.py [NUMBER], a number from 3 on")
 
 
 if __name__ == "__main__":

@@ -1,18 +1,22 @@
 #!/usr/bin/env python3
-"""Time and memory of `virgule check` on a proof text at the limits, beside those of `sha256sum` on the same text.
+"""Time and memory of `virgule check` on proof texts at the limits, beside those of `sha256sum` on the same texts.
 
     bench/check.py [RUNS]
 
-The text has 100,000 accounts and 2,000,000 certificates, and its verdict is `greatest 1999`. The program is built first
-where it has to be. Of so many runs (5 where none is named) the one with the least processor time is shown.
+Each text has 100,000 accounts and 2,000,000 certificates, and its verdict is `greatest 1999`: one canonical, and one with the
+same certificates in random order. The aim is at most five times the time of `sha256sum` on each. Nothing depends on these
+numbers. The program is built first where it has to be. The two programs run in turn, each so many times (5 where none is named), and
+the least of each time and the most memory are shown.
 """
 
-import os
+import multiprocessing
 import random
 import subprocess
 import sys
 import tempfile
 from pathlib import Path
+
+from measured import measure_in_turn
 
 TOP = Path(__file__).resolve().parent.parent
 ACCOUNTS = 100_000
@@ -40,59 +44,61 @@ def certificates():
         yield giver, sorted(taker + (taker >= giver) for taker in takers)
 
 
-def write_text(out):
-    """A canonical proof text at the limits."""
+def certificate_lines():
+    """The lines of the certificates, in canonical order."""
     levels = ("Master", "Journeyer", "Apprentice")
-    out.write("caps 2000 200 1\n")
-    out.writelines(f"account u{number}\n" for number in range(ACCOUNTS))
-    out.writelines(f"seed u{number}\n" for number in range(SEEDS))
     for giver, takers in certificates():
-        out.writelines(
-            f"cert u{giver} u{taker} {levels[0 if giver < SEEDS else (giver + taker) % 3]}\n" for taker in takers
-        )
-    out.write("level Apprentice\n")
-    out.writelines(f"flow - u{seed} {1 + len(children(seed))}\n" for seed in range(SEEDS))
-    for seed in range(SEEDS):
-        out.writelines(f"flow u{seed} u{child} 1\n" for child in children(seed))
-    out.write("pass -\n")
-    out.writelines(f"pass u{seed}\n" for seed in range(SEEDS))
-    out.writelines(f"full u{child}\n" for seed in range(SEEDS) for child in children(seed))
+        for taker in takers:
+            yield f"cert u{giver} u{taker} {levels[0 if giver < SEEDS else (giver + taker) % 3]}\n"
 
 
-def measure(words, text, runs):
-    """The least processor seconds of so many runs, the least seconds that passed, the most memory in MB, and the output."""
-    cpu = elapsed = None
-    memory = 0
-    for _ in range(runs):
-        with open(text, "rb") as source:
-            before = os.times().elapsed
-            child = subprocess.Popen(words, stdin=source, stdout=subprocess.PIPE)
-            output = child.stdout.read()
-            _, _, usage = os.wait4(child.pid, 0)
-            passed = os.times().elapsed - before
-        used = usage.ru_utime + usage.ru_stime
-        cpu = used if cpu is None else min(cpu, used)
-        elapsed = passed if elapsed is None else min(elapsed, passed)
-        memory = max(memory, usage.ru_maxrss / 1024)
-    return cpu, elapsed, memory, output.decode().split("\n")[0]
+def shuffled(lines):
+    """The lines in random order."""
+    lines = list(lines)
+    random.Random(3).shuffle(lines)
+    return lines
+
+
+def write_text(path, in_order):
+    """A proof text at the limits: canonical, or with its certificates in random order."""
+    with open(path, "w", encoding="ascii") as out:
+        out.write("caps 2000 200 1\n")
+        out.writelines(f"account u{number}\n" for number in range(ACCOUNTS))
+        out.writelines(f"seed u{number}\n" for number in range(SEEDS))
+        out.writelines(certificate_lines() if in_order else shuffled(certificate_lines()))
+        out.write("level Apprentice\n")
+        out.writelines(f"flow - u{seed} {1 + len(children(seed))}\n" for seed in range(SEEDS))
+        for seed in range(SEEDS):
+            out.writelines(f"flow u{seed} u{child} 1\n" for child in children(seed))
+        out.write("pass -\n")
+        out.writelines(f"pass u{seed}\n" for seed in range(SEEDS))
+        out.writelines(f"full u{child}\n" for seed in range(SEEDS) for child in children(seed))
+
+
+def print_measures(title, text, program, runs):
+    """Runs both programs over the text, and prints what they took."""
+    size = text.stat().st_size / 2**20
+    hashed, checked = measure_in_turn([["sha256sum"], [program, "check"]], text, runs)
+    print(f"{title}: {size:.1f} MB")
+    for name, run in (("sha256sum", hashed), ("virgule check", checked)):
+        first = run.output.split("\n")[0]
+        print(f"{name:<14} {run.processor:6.2f} s processor, {run.elapsed:6.2f} s passed, {run.memory:7.1f} MB   {first[:32]}")
+    times = checked.processor / hashed.processor
+    print(f"times: {times:.1f} of the time, {checked.memory / size:.1f} of the text's size in memory")
 
 
 def main():
     runs = int(sys.argv[1]) if len(sys.argv) > 1 else 5
-    program = TOP / "virgule"
-    subprocess.run([program, "check"], stdin=subprocess.DEVNULL, stdout=subprocess.DEVNULL, check=False)
-    built = TOP / "crates" / "virgule" / "out" / "virgule"
+    subprocess.run([TOP / "virgule", "check"], stdin=subprocess.DEVNULL, stdout=subprocess.DEVNULL, check=False)
+    program = TOP / "crates" / "virgule" / "out" / "virgule"
     with tempfile.TemporaryDirectory() as folder:
         text = Path(folder) / "limits.proof"
-        with open(text, "w", encoding="ascii") as out:
-            write_text(out)
-        size = text.stat().st_size / 2**20
-        print(f"text: {size:.1f} MB")
-        hashed = measure(["sha256sum"], text, runs)
-        checked = measure([built, "check"], text, runs)
-    for name, (cpu, elapsed, memory, output) in (("sha256sum", hashed), ("virgule check", checked)):
-        print(f"{name:<14} {cpu:6.2f} s processor, {elapsed:6.2f} s passed, {memory:7.1f} MB   {output[:32]}")
-    print(f"times: {checked[0] / hashed[0]:.1f} of the time, {checked[2] / size:.1f} of the text's size in memory")
+        for title, in_order in (("canonical", True), ("in random order", False)):
+            # In a process of its own, so that this one stays small.
+            writer = multiprocessing.Process(target=write_text, args=(text, in_order))
+            writer.start()
+            writer.join()
+            print_measures(title, text, program, runs)
 
 
 if __name__ == "__main__":

@@ -1,0 +1,83 @@
+#!/usr/bin/env python3
+"""`virgule rosters all` beside a C++ program over LEMON on the same site texts, and `virgule check` on an audit.
+
+    bench/rosters.py [RUNS]
+
+The sites are those of `graphs.py`, one of each kind, with 100,000 accounts and about 2,000,000 certificates. For each kind it
+shows the user seconds of both programs, for LEMON's also those of its three solves alone, the most memory that each one held, that of
+virgule also as a multiple of the text's size (the aim is at most six), and whether both accept equally many accounts at each
+level. Then `check` reads the audit of one of these sites, beside `sha256sum` on it. Nothing depends on these numbers.
+
+The programs run in turn, each so many times (3 where none is named), and the least time and the most memory are shown.
+virgule is built first where it has to be; the other needs `g++` and LEMON's headers (Debian's `liblemon-dev`).
+"""
+
+import subprocess
+import sys
+import tempfile
+from pathlib import Path
+
+from graphs import KINDS
+from measured import measure_in_turn
+
+TOP = Path(__file__).resolve().parent.parent
+PROGRAM = TOP / "crates" / "virgule" / "out" / "virgule"
+AUDITED = ("random", "Apprentice")
+
+
+def counts(output):
+    """How many accounts are accepted at each level."""
+    return [line.split()[:2] for line in output.splitlines()]
+
+
+def write_site(kind, text):
+    """Writes the site of this kind, in a process of its own, so that this one stays small."""
+    with open(text, "wb") as out:
+        subprocess.run([sys.executable, TOP / "bench" / "graphs.py", kind], stdout=out, check=True)
+
+
+def print_rosters(kind, text, other, runs):
+    """Runs both programs over a site's text, and prints a line on them."""
+    size = text.stat().st_size / 2**20
+    ours, theirs = measure_in_turn([[PROGRAM, "rosters", "all"], [other]], text, runs)
+    solves = float(theirs.notes.split()[1])
+    found = counts(ours.output)
+    agree = "agree" if found == counts(theirs.output) else "DIFFER"
+    print(
+        f"{kind:<10} {size:7.1f} {ours.user:9.2f} {ours.memory:8.1f} {ours.memory / size:6.1f}"
+        f" {theirs.user:9.2f} {solves:7.2f} {theirs.memory:8.1f}"
+        f"   {' '.join(number for _, number in found)} {agree}",
+        flush=True,
+    )
+
+
+def print_check(site, level, proof, runs):
+    """Writes the audit of a site, and prints what `check` takes to read it."""
+    with open(site, "rb") as source, open(proof, "wb") as out:
+        subprocess.run([PROGRAM, "audit", level], stdin=source, stdout=out, check=True)
+    size = proof.stat().st_size / 2**20
+    checked, hashed = measure_in_turn([[PROGRAM, "check"], ["sha256sum"]], proof, runs)
+    print(
+        f"check of its audit at {level}, {size:.1f} MB: {checked.user:.2f} s, {checked.memory:.1f} MB, {checked.output.strip()};"
+        f" sha256sum: {hashed.user:.2f} s",
+        flush=True,
+    )
+
+
+def main():
+    runs = int(sys.argv[1]) if len(sys.argv) > 1 else 3
+    subprocess.run([TOP / "virgule", "check"], stdin=subprocess.DEVNULL, stdout=subprocess.DEVNULL, check=False)
+    print(f"{'':<10} {'text':>7} {'virgule':>25} {'LEMON':>26}   accepted")
+    print(f"{'':<10} {'MB':>7} {'user s':>9} {'MB':>8} {'times':>6} {'user s':>9} {'solves':>7} {'MB':>8}   lowest level first")
+    with tempfile.TemporaryDirectory() as folder:
+        other, site, proof = (Path(folder) / name for name in ("preflow", "limits.site", "limits.proof"))
+        subprocess.run(["g++", "-O2", "-o", other, TOP / "bench" / "preflow.cpp"], check=True)
+        for kind in KINDS:
+            write_site(kind, site)
+            print_rosters(kind, site, other, runs)
+            if kind == AUDITED[0]:
+                print_check(site, AUDITED[1], proof, runs)
+
+
+if __name__ == "__main__":
+    main()
