@@ -1,25 +1,16 @@
 -- What is read of a claim so far, and what a claim is read to.
-use Rattle.std.specs.Prelude.{ℕ, true, false, IsTrue, ◌≡◌, ◌≢◌, ◌<◌, ◌≤◌, ◌+◌, ◌++◌, ◌↔◌, All, AllPairs, Contains, slice_index_or, vec_len}
+use Rattle.std.specs.Prelude.{ℕ, true, false, IsTrue, ◌≡◌, ◌≢◌, ◌+◌, ◌++◌, ◌↔◌, All, AllPairs, Contains, slice_index_or, vec_len}
 use Rattle.trust_types.specs.declared.accounts.Node.{Node}
 use Rattle.trust_types.specs.declared.accounts.Node.TheVariants.{Root}
 use Rattle.trust_types.specs.declared.flows.FlowLine.{FlowLine}
 use Rattle.trust_types.specs.declared.flows.Side.TheVariants.{Outside}
 use Rattle.trust_types.specs.Lines.{place, is_before, flow_of, sides_of}
+use Rattle.cut_check.specs.Proof.{IsNodeAmong, IsLineAmong}
 use Rattle.pair_map.specs.Pairs.{value_at}
 use Rattle.claim_lines.specs.declared.drafts.ClaimDraft.{ClaimDraft}
 use Rattle.claim_lines.specs.declared.drafts.ClaimParts.{ClaimParts}
 use Rattle.claim_lines.specs.Claim.{Claim, is_of_pair, is_placed, has_root}
 use Rattle.claim_lines.specs.Flows.{units_at}
-
--- The root, or one of so many accounts.
-abbrev pub IsNodeAmong : ℕ → Node → Type 0
-IsNodeAmong accounts x = place x ≤ accounts
-
--- A line between such nodes that carries at least one unit.
-pub record IsLineAmong (accounts : ℕ) (l : FlowLine) : Type 0 where
-  pub giver : IsNodeAmong accounts l.from
-  pub taker : l.to < accounts
-  pub units : 0 < l.units
 
 -- What each claim keeps to, of a site with so many accounts: it names no other, no pair has two lines, and no node stands
 -- twice.

@@ -39,7 +39,8 @@ impl ClaimDraft {
     ghost use Rattle.std.specs.Prelude.{ℕ, ◌≡◌, IfOk, length};
     ghost use Rattle.text_lines.specs.Reading.{Reads};
     ghost use Rattle.claim_lines.specs.Claim.{Claim, nothing, flow_line, placed_node, pass_line, full_line, claim_form, claim_line, has_root};
-    ghost use Rattle.claim_lines.specs.Drafts.{IsNodeAmong, IsFor, IsClaimDraft, ArePartsOf, ArePartsAmong};
+    ghost use Rattle.claim_lines.specs.Drafts.{IsFor, IsClaimDraft, ArePartsOf, ArePartsAmong};
+    ghost use Rattle.cut_check.specs.Proof.{IsNodeAmong};
 
     /// Nothing is claimed yet, of a site with so many accounts.
     ///

@@ -9,12 +9,11 @@ use crate::nodes::is_same;
 use text_lines::{TextKind, Words, is_line};
 use trust_types::Level;
 
-/// Whether the line ends the site: it is one whose first word is `level`. It looks at each byte of the line once, and at
-/// those of the first word twice more.
+/// Whether the line ends the site: it is one whose first word is `level`. Of another line it looks at the first word alone.
 pub fn is_level_line(line: &[u8]) -> bool
     ensures { result ≡ is_level_line line.now }
 {
-    is_line(line) && begins_with_level(line)
+    begins_with_level(line) && is_line(line)
 }
 
 fn begins_with_level(line: &[u8]) -> bool

@@ -7,7 +7,7 @@ use crate::seeds::mark;
 use cert_log::CertLog;
 use std::alloc::Global;
 use text_lines::{LineFault, TextKind, Words, is_line};
-use trust_types::{AccountNo, Cert, Level, Name, NameIndex};
+use trust_types::{AccountNo, Cert, Level, Name, NameIndex, NoMemory};
 
 /// The most accounts.
 const MOST_ACCOUNTS: usize = 100_000;
@@ -102,6 +102,7 @@ impl SiteDraft {
             return Err(LineFault::Kind(TextKind::BadLine));
         }
         if is_same(word, b"cert") {
+            self.settle()?;
             return self.cert(first, second, third);
         }
         Err(LineFault::Kind(TextKind::BadLine))
@@ -138,6 +139,14 @@ impl SiteDraft {
         if mark(&mut self.seeds, account) {
             return Err(LineFault::Kind(TextKind::Twice));
         }
+        Ok(())
+    }
+
+    /// Has the names sorted, if many came since they last were: certificates look two up each.
+    fn settle(&mut self) -> Result<(), NoMemory>
+        ensures { (k : List Record) → IsSiteDraft self.old k → IsSiteDraft self.new k }
+    {
+        self.names.settle()?;
         Ok(())
     }
 

@@ -24,7 +24,7 @@ pub returns-in-Some-next_word-4 : goal.returns-in-Some-next_word-4
 returns-in-Some-next_word-4 c = λ k is. form-five k _ _ _ _ _ _ _ _ _ _ _ c.in-Some.ensures c.in-Some-next_word.ensures c.in-Some-next_word-2.ensures c.in-Some-next_word-3.ensures c.in-Some-next_word-4.ensures
 
 pub returns-then-is_same-3 : goal.returns-then-is_same-3
-returns-then-is_same-3 c = λ k is. rw (form-cert k _ _ _ _ _ _ _ _ _ c.in-Some.ensures c.in-Some-next_word.ensures c.in-Some-next_word-2.ensures c.in-Some-next_word-3.ensures c.in_default-next_word-4.ensures (sym c.is_same-2.ensures ∙ c.if-is_same-3.true)) (c.cert.ensures k is)
+returns-then-is_same-3 c = λ k is. rw (form-cert k _ _ _ _ _ _ _ _ _ c.in-Some.ensures c.in-Some-next_word.ensures c.in-Some-next_word-2.ensures c.in-Some-next_word-3.ensures c.in_default-next_word-4.ensures (sym c.is_same-2.ensures ∙ c.if-is_same-3.true)) (c.cert.ensures k (c.settle.ensures k is))
 
 pub returns : goal.returns
 returns c = λ k is. form-four k _ _ _ _ _ _ _ _ _ c.in-Some.ensures c.in-Some-next_word.ensures c.in-Some-next_word-2.ensures c.in-Some-next_word-3.ensures c.in_default-next_word-4.ensures (sym c.is_same-2.ensures ∙ c.if-is_same-3.false)
