@@ -1,5 +1,5 @@
 -- What a log keeps of the certificates that were given.
-use Rattle.std.specs.Prelude.{ℕ, Bool, true, List, [], ◌∷◌, ◌++◌, ◌≡◌, ◌≤◌, Option, Some, None, Result, Ok, Err, nat_le, length, if◌then◌else◌}
+use Rattle.std.specs.Prelude.{ℕ, Bool, true, false, List, [], ◌∷◌, ◌++◌, ◌≡◌, ◌≤◌, Option, Some, None, Result, Ok, Err, nat_le, length, if◌then◌else◌}
 use Rattle.trust_types.specs.declared.levels.Level.{Level}
 use Rattle.trust_types.specs.declared.graphs.Cert.{Cert}
 use Rattle.trust_types.specs.Levels.{is_grade}
@@ -31,11 +31,11 @@ Keeps (Levels levels) certs = AreLevels levels certs
 pub record IsLog (log : CertLog) (certs : List Cert) : Type 0 where
   pub keeps : Keeps log.kept certs
 
--- A further certificate is taken exactly where no more than 2,000,000 stand then.
+-- A further certificate is taken exactly where no more than 2,000,000 stand then; else the log stays as it was.
 abbrev pub Takes : {E : Type 0} → List Cert → Cert → Result Bool E → CertLog → Type 0
-Takes certs c (Ok fits) new = (fits ≡ nat_le (standing_count (certs ++ c ∷ [])) 2000000) × (fits ≡ true → IsLog new (certs ++ c ∷ []))
+Takes certs c (Ok fits) new = (fits ≡ nat_le (standing_count (certs ++ c ∷ [])) 2000000) × (fits ≡ true → IsLog new (certs ++ c ∷ [])) × (fits ≡ false → IsLog new certs)
 Takes certs c (Err e) new = Unit {0}
 
 abbrev pub TakesLevel : {E : Type 0} → List Cert → Cert → Result Bool E → Pairs Level → Type 0
-TakesLevel certs c (Ok fits) new = (fits ≡ nat_le (standing_count (certs ++ c ∷ [])) 2000000) × (fits ≡ true → AreLevels new (certs ++ c ∷ []))
+TakesLevel certs c (Ok fits) new = (fits ≡ nat_le (standing_count (certs ++ c ∷ [])) 2000000) × (fits ≡ true → AreLevels new (certs ++ c ∷ [])) × (fits ≡ false → AreLevels new certs)
 TakesLevel certs c (Err e) new = Unit {0}

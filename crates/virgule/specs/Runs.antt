@@ -35,8 +35,8 @@ abbrev pub Comes : Command → Input → Input → Outcome → Type 0
 Comes command before now (Answered answer) =
     (bytes : List ℕ) × IsWholeInput (limit_of command) before now bytes × Answers command bytes answer
 Comes command before now Misused = ⊥
-Comes command before now TooLong = TakesCount before.left now.left (limit_of command + 1) × (now.faults ≡ before.faults)
-Comes command before now Unread = TakesAtMost before.left now.left (limit_of command) × Rose before.faults now.faults
+Comes command before now TooLong = TakesCount before.left now.left (limit_of command + 1) × (now.faults ≡ before.faults) × (now.ends ≡ before.ends)
+Comes command before now Unread = TakesAtMost before.left now.left (limit_of command) × Rose before.faults now.faults × (now.ends ≡ before.ends)
 Comes command before now OutOfMemory = TakesAtMost before.left now.left (limit_of command) × (now.faults ≡ before.faults)
 
 -- What the words come to. Where they are no command nothing is read.

@@ -1,6 +1,10 @@
 //! The site engine as a program.
 #![tactic(auto)]
 
+ghost use Rattle.std.specs.Prelude.{◌≡◌};
+ghost use Rattle.std.specs.Process.{exit_status};
+ghost use Rattle.virgule.specs.Outcomes.{code_after};
+
 mod answers;
 mod command;
 mod outcome;
@@ -19,8 +23,17 @@ use std::process::ExitCode;
 use trust_types::NoMemory;
 
 fn main(rt: HostRuntime) -> ExitCode {
-    let status = start(&rt).unwrap_or(Status::NoMemory);
-    ExitCode::from(status as u8)
+    exit_of(start(&rt))
+}
+
+/// How the process ends.
+fn exit_of(started: Result<Status, NoMemory>) -> ExitCode
+    ensures { exit_status result ≡ code_after started }
+{
+    match started {
+        Ok(status) => ExitCode::from(status.code()),
+        Err(NoMemory) => ExitCode::from(Status::NoMemory.code()),
+    }
 }
 
 /// Runs over the standard input and output with the words of the command line. Words that are no text are as none.

@@ -1,3 +1,6 @@
+ghost use Rattle.std.specs.Prelude.{◌≡◌};
+ghost use Rattle.virgule.specs.Outcomes.{code_of};
+
 /// How a run ended.
 #[derive(Clone, Copy, Debug, PartialEq, Eq)]
 pub enum Status {
@@ -17,4 +20,13 @@ pub enum Status {
     WriteFault = 6,
     /// Memory ran out.
     NoMemory = 9,
+}
+
+impl Status {
+    /// The number by which it is known outside: that with which the process ends.
+    pub fn code(self) -> u8
+        ensures { result ≡ code_of self }
+    {
+        self as u8
+    }
 }

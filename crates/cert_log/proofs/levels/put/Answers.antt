@@ -13,12 +13,12 @@ returns-then-not-is_grade c = rw (← c.cert.view_is) (λ cs are.
     let cert : Cert = record { from = c.cert.inside.0.0.0; to = c.cert.inside.0.1.0.0; level = c.cert.inside.0.1.1.0 } in
     let next : AreLevels c.remove-before.new.self (cs ++ cert ∷ []) = removed c.args.levels.now _ cs cert _ are (tested cert.level _ c.is_grade.ensures ∙ c.if-not-is_grade.true)
     c.remove-before.ensures.before c.remove-before.ensures.set c.remove-before.ensures.count in
-    (few_fit _ _ refl next.few, λ _. next))
+    (few_fit _ _ refl next.few, λ _. next, λ refused. cc))
 
 pub returns-then-not-contains : goal.returns-then-not-contains
 returns-then-not-contains c = rw (← c.cert.view_is) (λ cs are.
     let cert : Cert = record { from = c.cert.inside.0.0.0; to = c.cert.inside.0.1.0.0; level = c.cert.inside.0.1.1.0 } in
-    (full c.args.levels.now cs cert are (tested cert.level _ c.is_grade.ensures ∙ c.if-not-is_grade.false) (sym c.contains.ensures ∙ c.if-not-contains.true) (omega arith), λ added. cc))
+    (full c.args.levels.now cs cert are (tested cert.level _ c.is_grade.ensures ∙ c.if-not-is_grade.false) (sym c.contains.ensures ∙ c.if-not-contains.true) (omega arith), λ added. cc, λ refused. are))
 
 pub returns : goal.returns
 returns c = rw (← c.cert.view_is) (λ cs are.
@@ -29,4 +29,4 @@ returns c = rw (← c.cert.view_is) (λ cs are.
     ] in
     let next : AreLevels c.insert.new.self (cs ++ cert ∷ []) = inserted c.args.levels.now _ cs cert _ are (tested cert.level _ c.is_grade.ensures ∙ c.if-not-is_grade.false)
     c.in_ok-_before.ensures.before c.in_ok-_before.ensures.set c.in_ok-_before.ensures.count room in
-    (few_fit _ _ refl next.few, λ _. next))
+    (few_fit _ _ refl next.few, λ _. next, λ refused. cc))

@@ -13,4 +13,4 @@ returns-then-len-lt-MOST c = λ cs is.
     let keeps = subst Kind c.in-Lines.is is.keeps in
     let less : length cs < 2000000 = grind (arith, ap length keeps.0) in
     let few : length (cs ++ cert ∷ []) ≤ 2000000 = omega (arith, length_push cs cert) in
-    (short_fits (cs ++ cert ∷ []) few, λ added. record { keeps = (c.in_ok-push-in-Lines.ensures.items ∙ ap (λ (front : List Cert). front ++ cert ∷ []) keeps.0, few) })
+    (short_fits (cs ++ cert ∷ []) few, λ added. record { keeps = (c.in_ok-push-in-Lines.ensures.items ∙ ap (λ (front : List Cert). front ++ cert ∷ []) keeps.0, few) }, λ refused. cc)
