@@ -5,4 +5,4 @@ mod Values
 mod Adding
 mod Judging
 mod Most
-mod Passing
+pub mod Passing

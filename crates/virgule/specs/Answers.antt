@@ -4,7 +4,9 @@ use Rattle.std.specs.List.Sorted.{IsStrictlyIncreasing}
 use Rattle.trust_types.specs.declared.levels.Level.{Level}
 use Rattle.trust_types.specs.declared.levels.Level.TheVariants.{Apprentice, Journeyer, Master}
 use Rattle.trust_types.specs.Levels.{level_name}
+use Rattle.trust_types.specs.Flow.{total}
 use Rattle.trust_types.specs.Roster.{IsRoster}
+use Rattle.trust_types.specs.Lines.{flow_of}
 use Rattle.text_lines.specs.declared.faults.TextFault.{TextFault}
 use Rattle.text_lines.specs.Faults.{fault_line}
 use Rattle.roster_form.specs.Bounded.{IsBounded}
@@ -79,8 +81,15 @@ abbrev pub AnswersSite : (View → List ℕ → Type 0) → Result SiteText Text
 AnswersSite Says (Err fault) answer = TellsFault fault answer
 AnswersSite Says (Ok s) answer = (answer.status ≡ Done) × Says (of_text s) answer.text.items
 
+-- The canonical proof text of the site at a grade, with a flow and a cut that prove whom they serve. Whoever checks it gets
+-- `greatest`, with as many accounts as the flow serves.
+pub record IsAuditText (level : Level) (v : View) (text : List ℕ) : Type 0 where
+  pub audit : IsAudit level v text
+  pub passes : (answer : Answer) → AnswersProof (proof text) answer →
+      (answer.status ≡ Done) × (answer.text.items ≡ verdict_line v.names (Greatest (total v.graph.accounts (flow_of audit.lists.flow))))
+
 -- The answer to the bytes. Each command gives one of just these for every input.
 abbrev pub Answers : Command → List ℕ → Answer → Type 0
 Answers Check bytes answer = AnswersProof (proof bytes) answer
 Answers (Rosters asked) bytes answer = AnswersSite (AreRosterLines asked) (site bytes) answer
-Answers (Audit level) bytes answer = AnswersSite (IsAudit level) (site bytes) answer
+Answers (Audit level) bytes answer = AnswersSite (IsAuditText level) (site bytes) answer

@@ -4,8 +4,7 @@ ghost use Rattle.std.specs.Prelude.{◌≡◌, ◌≤◌, IfOk, length};
 ghost use Rattle.site_text.specs.Site.{site, proof};
 ghost use Rattle.virgule.specs.Commands.{limit_of, AreGrades, AsksGrades};
 ghost use Rattle.trust_types.specs.Levels.{IsGrade};
-ghost use Rattle.virgule.specs.Answers.{status_for, Answers, AnswersProof, AnswersSite, IsJudged, TellsFault, AreRosterLines};
-ghost use Rattle.site_text.specs.Canonical.{IsAudit};
+ghost use Rattle.virgule.specs.Answers.{status_for, Answers, AnswersProof, AnswersSite, IsJudged, TellsFault, AreRosterLines, IsAuditText};
 
 use crate::command::{Asked, Command};
 use crate::outcome::Answer;
@@ -92,7 +91,7 @@ fn answer_rosters(alloc: Global, asked: Asked, bytes: &[u8]) -> Result<Answer, N
 fn answer_audit(alloc: Global, level: Level, bytes: &[u8]) -> Result<Answer, NoMemory>
     requires grade { IsGrade level }
     requires few { length bytes.now ≤ 67108864 }
-    ensures { IfOk result (AnswersSite (IsAudit level) (site bytes.now)) }
+    ensures { IfOk result (AnswersSite (IsAuditText level) (site bytes.now)) }
 {
     match read_site(alloc, bytes) {
         Ok(frozen) => {

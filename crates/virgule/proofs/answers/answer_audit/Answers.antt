@@ -5,11 +5,12 @@ use Rattle.frozen.specs.Revision.{Revision}
 use Rattle.roster_form.specs.Candidates.{IsSound}
 use Rattle.roster_form.specs.LevelRosters.{lists_of}
 use Rattle.site_text.specs.View.{View, of_text, of_frozen}
-use Rattle.site_text.specs.Canonical.{IsAudit, IsCanonical, IsReadAs}
+use Rattle.site_text.specs.Canonical.{IsCanonical, IsReadAs}
 use Rattle.virgule.specs.declared.status.Status.TheVariants.{Done}
 use Rattle.virgule.specs.declared.outcome.Answer.{Answer}
-use Rattle.virgule.specs.Answers.{AnswersSite}
+use Rattle.virgule.specs.Answers.{AnswersSite, IsAuditText}
 use Rattle.virgule.proofs.Told.{audit_of}
+use Rattle.virgule.proofs.Audited.{audited}
 use Rattle.virgule.proofs.answers.answer_audit.Goals as goal
 
 pub returns-in_ok-proof_text-in-Ok : goal.returns-in_ok-proof_text-in-Ok
@@ -27,7 +28,7 @@ returns-in_ok-proof_text-in-Ok c =
     let readable : IsReadAs (of_frozen f) c.args.level r text =
     subst (λ (l : Level). IsReadAs (of_frozen f) l r text) at
     (subst (λ (g : Revision). IsReadAs (of_frozen g) roster.level r text) c.deref-in-Ok.ensures c.in_ok-proof_text-in-Ok.ensures.readable) in
-    let told : IsAudit c.args.level (of_text read.0) text =
-    subst (λ (v : View). IsAudit c.args.level v text) read.2.same (audit_of f c.args.level r text sound canonical readable) in
+    let told : IsAuditText c.args.level (of_text read.0) text =
+    subst (λ (v : View). IsAuditText c.args.level v text) read.2.same (audited (audit_of f c.args.level r text sound canonical readable)) in
     let answer : Answer = record { status = Done; text = c.in_ok-proof_text-in-Ok.field-0 } in
-    subst (λ said. AnswersSite (IsAudit c.args.level) said answer) (sym read.1) (refl, told)
+    subst (λ said. AnswersSite (IsAuditText c.args.level) said answer) (sym read.1) (refl, told)
