@@ -66,6 +66,49 @@ const CLAIMS: [(&str, &str, Status); 10] = [
     ),
 ];
 
+/// The same site with its lines in another order.
+const TURNED_SITE: &str =
+    "caps 3 2 1\naccount raph\nseed raph\naccount alan\ncert raph alan Master\naccount mia\ncert raph mia Master\nlevel Master\n";
+
+/// The first of these claims with their lines in another order, and the same verdicts.
+const TURNED_CLAIMS: [(&str, &str, Status); 7] = [
+    (
+        "full raph\npass -\nflow raph alan 1\nflow - raph 2\n",
+        "greatest 2\n",
+        Status::Done,
+    ),
+    (
+        "flow alan mia 1\nfull raph\nflow - raph 2\npass -\nflow raph alan 1\n",
+        "no edge alan mia\n",
+        Status::No,
+    ),
+    (
+        "pass -\nflow raph alan 1\nfull raph\nflow - raph 3\n",
+        "no balance raph\n",
+        Status::No,
+    ),
+    (
+        "flow raph mia 1\nflow raph alan 1\nflow - raph 3\nfull raph\npass -\n",
+        "no room -\n",
+        Status::No,
+    ),
+    (
+        "full raph\nflow raph alan 1\npass -\nflow - raph 1\n",
+        "no service raph\n",
+        Status::No,
+    ),
+    (
+        "pass raph\nflow raph alan 1\nflow - raph 2\npass -\n",
+        "no closure raph alan\n",
+        Status::No,
+    ),
+    (
+        "full raph\npass -\nflow - raph 1\n",
+        "no match 1 2\n",
+        Status::No,
+    ),
+];
+
 /// Two seeds, each of which certifies two others.
 const TWO_SEEDS: &str =
     "caps 9 2 1\naccount raph\naccount kim\naccount a\naccount b\naccount c\naccount d\nseed raph\nseed kim\ncert raph a Master\ncert raph b Master\ncert kim c Master\ncert kim d Master\nlevel Master\n";
@@ -171,6 +214,10 @@ fn a_proof_text_gets_its_verdict(rt: HostRuntime) -> Result<(), Fail> {
     let alloc = rt.alloc();
     for (claim, line, status) in CLAIMS {
         let text = format!(in alloc; "{SITE}{claim}")?;
+        assert_told(&rt, &["check"], &text, line, status)?;
+    }
+    for (claim, line, status) in TURNED_CLAIMS {
+        let text = format!(in alloc; "{TURNED_SITE}{claim}")?;
         assert_told(&rt, &["check"], &text, line, status)?;
     }
     for (claim, line) in RIVALS {
