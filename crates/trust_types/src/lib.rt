@@ -5,6 +5,7 @@ mod accounts;
 mod cert_lists;
 mod flows;
 mod graphs;
+mod key_table;
 mod laws;
 mod levels;
 mod memory;

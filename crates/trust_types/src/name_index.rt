@@ -1,32 +1,28 @@
 //! The names of the accounts, and the number of each.
 
-ghost use Rattle.std.specs.Prelude.{◌≡◌, ◌≢◌, ◌<◌, ◌≤◌, ◌^◌, ◌++◌, ◌∷◌, [], ℕ, List, All, Contains, MatchOption, length, vec_len, slice_get, OnOk, IfOk, OnErr, Some, None};
-ghost use Rattle.std.specs.List.Sorted.{IsSortedByKey};
-ghost use Rattle.std.specs.Ordering.{nat_cmp};
+ghost use Rattle.std.specs.Prelude.{◌≡◌, ◌<◌, ◌≤◌, ◌^◌, ◌↔◌, ◌++◌, ◌∷◌, [], ℕ, List, length, vec_len, slice_get, OnOk, IfOk, OnErr, Some, None};
 ghost use Rattle.trust_types.specs.Names.{IsName};
-ghost use Rattle.trust_types.specs.NameLists.{number_of, AreApart, IsTableOf, LacksKey};
+ghost use Rattle.trust_types.specs.NameLists.{number_of, spread_key, AreApart, IsTableOf};
 
 use crate::accounts::AccountNo;
+use crate::key_table::{Entry, KeyTable};
 use crate::memory::NoMemory;
 use crate::names::Name;
 use std::alloc::{AllocError, Global};
 use std::collections::BTreeMap;
 use std::marker::Model;
 
-/// A line of the table: a name's key, and the number of its account.
-#[derive(Clone, Copy)]
-struct Entry {
-    key: u128,
-    number: u32,
-}
+/// A key times this number is spread evenly over the numbers of 128 bits, also where names are much alike. It is odd, so
+/// that the products of different keys differ.
+const SPREAD: u128 = 0x2360_ED05_1FC6_5DA4_4385_DF64_9FCC_F645;
 
 /// Names that differ, in order of account number, with the number of each. Contracts see the list of the names.
 #[derive(Drop)]
 pub struct NameIndex {
     names: Vec<Name>,
-    /// The first names, sorted by key.
-    table: Vec<Entry>,
-    /// The numbers of the other names, which were pushed since the table was made, by key.
+    /// The numbers of the first names, by spread key.
+    table: KeyTable,
+    /// The numbers of the other names, which were pushed since the table was made, by spread key.
     recent: BTreeMap<u128, u32>,
 }
 
@@ -38,7 +34,7 @@ impl Model for NameIndex {
 
     ghost view = { λ index. index.names.items };
 
-    ghost invariant = { λ index. IsIndexed index.names.items index.table.items index.recent };
+    ghost invariant = { λ index. IsIndexed index.names.items index.table index.recent };
 }
 
 impl NameIndex {
@@ -48,7 +44,7 @@ impl NameIndex {
     {
         NameIndex {
             names: Vec::new(alloc),
-            table: Vec::new(alloc),
+            table: KeyTable::new(alloc),
             recent: BTreeMap::new(alloc),
         }
     }
@@ -83,13 +79,14 @@ impl NameIndex {
         self.names[account.index()]
     }
 
-    /// The number of the account of that name; `None` where none has it. It looks at as many names as the logarithm
-    /// of their number, and soonest at those that were there when the names were last sorted, by `of` or `settle`.
+    /// The number of the account of that name; `None` where none has it. Among the names that were there when they were
+    /// last sorted, by `of` or `settle`, it looks at one or two, and whatever they are at no more than the logarithm of
+    /// their number; where it isn't one of those, it looks at as many of the others as the logarithm of theirs.
     pub fn find(&self, name: &Name) -> Option<AccountNo>
         ensures { result ≡ number_of self.now name.now }
     {
-        let key = name.key();
-        match look_up(&self.table, key) {
+        let key = spread_key(name);
+        match self.table.find(key) {
             Some(number) => Some(AccountNo(number)),
             None => match self.recent.get(&key) {
                 Some(number) => Some(AccountNo(*number)),
@@ -106,18 +103,21 @@ impl NameIndex {
         ensures same { OnErr result (self.new ≡ self.old) }
     {
         self.names.reserve(1)?;
-        self.recent.insert(name.key(), self.names.len() as u32)?;
+        self.recent
+            .insert(spread_key(&name), self.names.len() as u32)?;
         self.names.push_reserved(name);
         Ok(())
     }
 
     /// Makes look-ups faster: call it before many of them. The names stay as they are, whatever it answers. It sorts
-    /// them all where more than about a ninth of them were pushed since they were last sorted, and else does nothing,
-    /// so calls between the pushes of many names take no more, all together, than a logarithm's steps a name.
+    /// them all where more than about a ninth of them were pushed since they were last sorted, if they are fewer than
+    /// 2^32, and else does nothing, so calls between the pushes of many names take no more, all together, than a
+    /// logarithm's steps a name.
     pub fn settle(&mut self) -> Result<(), NoMemory>
         ensures { self.new ≡ self.old }
     {
-        if self.recent.len() > self.table.len() / 8 {
+        let is_due = self.recent.len() > self.table.len() / 8;
+        if is_due && self.names.len() <= u32::MAX as usize {
             self.table = table_of(*self.names.allocator(), &self.names)?;
             self.recent.clear();
         }
@@ -133,41 +133,37 @@ impl NameIndex {
     }
 }
 
-/// The table of all names.
-fn table_of(alloc: Global, names: &[Name]) -> Result<Vec<Entry>, AllocError>
-    requires apart { AreApart names.now }
-    requires room { length names.now ≤ 2 ^ 32 }
-    ensures whole { IfOk result (λ table. IsTableOf names.now table.items) }
-    ensures sorted { IfOk result (λ table. IsSortedByKey (λ entry. entry.key) nat_cmp table.items) }
+/// The number by which the index looks a name up: its key, spread.
+fn spread_key(name: &Name) -> u128
+    ensures value { result ≡ spread_key name.now }
+    ensures name { IsName name.now }
+    ensures apart { (other : List ℕ) → IsName other → (spread_key other ≡ result) ↔ (other ≡ name.now) }
 {
-    let mut table = entries_of(alloc, names)?;
-    table.sort_unstable_by_key(|entry| entry.key);
-    Ok(table)
+    name.key().wrapping_mul(SPREAD)
+}
+
+/// The table of all names.
+fn table_of(alloc: Global, names: &[Name]) -> Result<KeyTable, AllocError>
+    requires apart { AreApart names.now }
+    requires room { length names.now < 2 ^ 32 }
+    ensures { IfOk result (λ table. IsTableOf names.now table) }
+{
+    KeyTable::of(alloc, entries_of(alloc, names)?)
 }
 
 /// An entry for each name, in order of account number.
 fn entries_of(alloc: Global, names: &[Name]) -> Result<Vec<Entry>, AllocError>
     requires apart { AreApart names.now }
-    requires room { length names.now ≤ 2 ^ 32 }
-    ensures { IfOk result (λ entries. IsTableOf names.now entries.items) }
+    requires room { length names.now < 2 ^ 32 }
+    ensures whole { IfOk result (λ entries. IsTableOf names.now entries.items) }
+    ensures long { IfOk result (λ entries. vec_len entries ≡ length names.now) }
 {
     let mut entries = Vec::with_capacity(alloc, names.len())?;
     for (number, name) in names.iter().enumerate() {
         entries.push_reserved(Entry {
-            key: name.key(),
+            key: spread_key(name),
             number: number as u32,
         });
     }
     Ok(entries)
-}
-
-/// The number under a key in a table sorted by key.
-fn look_up(table: &[Entry], key: u128) -> Option<u32>
-    requires { IsSortedByKey (λ entry. entry.key) nat_cmp table.now }
-    ensures { MatchOption result (LacksKey table.now key) (λ number. Contains table.now (record { key = key; number = number })) }
-{
-    match table.binary_search_by_key(&key, |entry| entry.key) {
-        Ok(place) => Some(table[place].number),
-        Err(_) => None,
-    }
 }
