@@ -1,31 +1,28 @@
--- The arrays that were laid out stand for the split graph.
-use Rattle.std.proofs.Common.{ℕ, ◌+◌, ◌*◌, ◌^◌, ◌≡◌, ◌≢◌, ◌≤◌, ◌<◌, inl, inr, refl, arith, ap, sym, subst, ◌∙◌, List, [], ◌∷◌, length, get_or}
+-- The arcs that were laid out are those of the split graph, in their places.
+use Rattle.std.proofs.Common.{ℕ, ◌+◌, ◌*◌, ◌^◌, ◌≡◌, ◌≤◌, ◌<◌, inl, inr, refl, arith, ap, sym, subst, ◌∙◌, List, [], ◌∷◌, length, get_or}
+use Rattle.std.proofs.lemmas.List.{length-replicate}
 use Rattle.trust_types.specs.declared.levels.Level.{Level}
-use Rattle.trust_types.specs.declared.levels.Level.TheVariants.{Observer}
 use Rattle.trust_types.specs.declared.accounts.Node.{Node}
 use Rattle.trust_types.specs.declared.accounts.Node.TheVariants.{Root, Account}
-use Rattle.trust_types.specs.Graph.{Certificates}
 use Rattle.trust_types.specs.Capacity.{AreCapacities, cap_by}
 use Rattle.trust_types.specs.Tables.{IsTable}
 use Rattle.trust_types.specs.Rows.{GivesEachOnce}
-use Rattle.trust_types.specs.Layout.{degree, taker, level_given, given}
+use Rattle.trust_types.specs.Layout.{degree, taker, given}
 use Rattle.frozen.specs.Revision.{Revision, certificates}
 use Rattle.split_graph.specs.declared.split_arcs.SplitArc.{SplitArc}
-use Rattle.split_graph.specs.Split.{first_half, second_half, node_count, IsNode, Rests, IsSplitGraph, unbounded}
-use Rattle.split_graph.specs.Arcs.{Arcs, AreArcs, LeadsTo, between}
-use Rattle.split_graph.specs.SplitArcs.{through_arc, edge_arc, end_arc, cert_capacity, split_arcs}
-use Rattle.split_graph.specs.Layout.{Table, arc_at, ends_at, capacity_among, Joins, AreSplitArcs, IsLaidOut, IsArcAt, ArePlaced}
-use Rattle.split_graph.specs.Network.{Room, StandsFor, nothing, seeds_before, IsTaker}
-use Rattle.split_graph.specs.Held.{network}
+use Rattle.split_graph.specs.Split.{first_half, second_half, node_count, IsNode}
+use Rattle.split_graph.specs.Arcs.{AreArcs, LeadsTo}
+use Rattle.split_graph.specs.SplitArcs.{through_arc, edge_arc, end_arc, split_arcs}
+use Rattle.split_graph.specs.Layout.{Table, arc_at, ends_at, Joins, AreSplitArcs, IsLaidOut, IsArcAt, ArePlaced}
+use Rattle.split_graph.specs.Network.{AreInPlace, nothing, seeds_before, IsTaker}
+use Rattle.split_graph.specs.Held.{arcs_in, blank}
+use Rattle.split_graph.proofs.Filled.{IsCapacityAt, AreFilled}
 use Rattle.trust_types.proofs.Walks.{distance_of_root, walk_within}
 use Rattle.split_graph.proofs.Places.{first_more, place_of, placed_before}
 use Rattle.split_graph.proofs.Counts.{places-all}
 use Rattle.split_graph.proofs.Lists.{StandsAt, all_ends}
-use Rattle.split_graph.proofs.Listed.{Listing, listed, are_split_arcs, root_at, through_at, end_at, seed_at, cert_at, split_graph, ends-root}
-
--- the arcs of a table
-abbrev pub arcs_in : ℕ → Table → Arcs
-arcs_in n t = record { accounts = n; first = t.first; head = t.head; twin = t.twin; rest = t.rest }
+use Rattle.split_graph.proofs.Listed.{Listing, listed, are_split_arcs, root_at, through_at, end_at, seed_at, cert_at, ends-root}
+use Rattle.split_graph.proofs.Filled.{none_rests}
 
 -- what holds once all arcs were placed
 pub record Built : Type 0 where
@@ -35,6 +32,7 @@ pub record Built : Type 0 where
   pub fits : n ≤ 100000
   pub few : length arcs < 2 ^ 30
   pub long : node_count n < length t.first
+  pub enough : 2 * length arcs ≤ length t.rest
   pub are : AreSplitArcs (node_count n) arcs
   pub laid : IsLaidOut (node_count n) arcs t.first
   pub placed : ArePlaced (node_count n) arcs (length arcs) t
@@ -57,7 +55,7 @@ simple_at b v w d e one other tail head =
     let place : ℕ → ℕ → ℕ = λ u k. get_or b.t.first u 0 + ends_at b.arcs k u in
     one.at ∙ ap (λ (u : ℕ). place u one.number) tail ∙ ap (place w) same ∙ sym other.at
 
-pub are_arcs : (b : Built) → AreArcs (arcs_in b.n b.t)
+are_arcs : (b : Built) → AreArcs (blank (arcs_in b.n b.t))
 are_arcs b =
     let nodes : ℕ = node_count b.n in
     let first : List ℕ = b.t.first in
@@ -67,7 +65,7 @@ are_arcs b =
       first_long = b.long;
       head_long = b.placed.head_long;
       twin_long = b.placed.twin_long;
-      rest_long = b.placed.rest_long;
+      rest_long = omega (arith, b.enough, places-all nodes b.arcs first b.are b.laid, length-replicate {A = ℕ} (length b.t.rest) 0);
       first_within = λ u le. first_more nodes b.arcs first b.laid u nodes le (omega arith);
       head_within = λ e below. (arc_of_place b e below).4.within;
       twin_within = λ e below.
@@ -83,14 +81,14 @@ are_arcs b =
       from_first = λ e below. let v = arc_of_place b e below in omega (arith, ap (λ (i : ℕ). get_or first i 0) v.4.turn, v.2);
       before_next = λ e below. let v = arc_of_place b e below in omega (arith, ap (λ (i : ℕ). get_or first (i + 1) 0) v.4.turn, v.3);
       leaves = λ u e u_in from before. (b.placed.residual u e u_in from (omega (arith, b.placed.next u u_in, b.laid.goes_on u u_in))).turn;
-      room = λ e below. (arc_of_place b e below).4.fits;
+      room = λ e below. omega (arith, none_rests (length b.t.rest) e, none_rests (length b.t.rest) (get_or b.t.twin e 0));
     }
 
 -- where an arc of the list is
 leads_to : (b : Built) (x : SplitArc) (i : ℕ) → x.from < node_count b.n → StandsAt b.arcs x i → LeadsTo (arcs_in b.n b.t) x.from x.to (get_or b.t.first x.from 0 + i)
 leads_to b x i below at =
     let first : List ℕ = b.t.first in
-    let are : AreArcs (arcs_in b.n b.t) = are_arcs b in
+    let are : AreArcs (blank (arcs_in b.n b.t)) = are_arcs b in
     let from_is : (arc_at b.arcs at.number).from ≡ x.from = ap (λ (y : SplitArc). y.from) at.is in
     let before : get_or first x.from 0 + i < get_or first (x.from + 1) 0 = placed_before (node_count b.n) b.arcs first b.laid at.number x.from i at.within below from_is at.before in
     let place : get_or first (arc_at b.arcs at.number).from 0 + ends_at b.arcs at.number (arc_at b.arcs at.number).from ≡ get_or first x.from 0 + i =
@@ -101,38 +99,24 @@ leads_to b x i below at =
       head = ap (λ (k : ℕ). get_or b.t.head k 0) (sym place) ∙ b.placed.at at.number at.within ∙ ap (λ (y : SplitArc). y.to) at.is;
     }
 
-split_same : (g : Certificates) (level : Level) (cap : Node → ℕ) (c d : Rests) → IsSplitGraph g level cap c → ((x y : ℕ) → d x y ≡ c x y) → IsSplitGraph g level cap d
-split_same g level cap c d split same = record {
-  through = λ x is. same (first_half x) (second_half x) ∙ split.through x is;
-  ends = λ a below. same _ _ ∙ split.ends a below;
-  along = λ x b edge. same _ _ ∙ split.along x b edge;
-  only = λ u v some. split.only u v (omega (arith, same u v, some));
-}
-
 -- a table of the arcs that were listed for a graph
 pub record Loading : Type 0 where
   pub graph : Revision
-  pub level : Level
-  pub root : ℕ
-  pub caps : List ℕ
   pub readers : GivesEachOnce (certificates graph) (degree graph.rows) (given graph.rows)
-  pub grade : level ≢ Observer
-  pub table : IsTable graph.caps
-  pub root_fits : root < 2 ^ 32
-  pub caps_fit : (a : ℕ) → get_or caps a 0 < 2 ^ 32
   pub n : ℕ
   pub arcs : List SplitArc
   pub t : Table
   pub size : n ≡ (certificates graph).accounts
   pub fits : n ≤ 100000
   pub few : length arcs < 2 ^ 30
-  pub listed : arcs ≡ split_arcs graph.rows level root caps
+  pub listed : arcs ≡ split_arcs graph.rows
   pub long : node_count n < length t.first
+  pub enough : 2 * length arcs ≤ length t.rest
   pub laid : IsLaidOut (node_count n) arcs t.first
   pub placed : ArePlaced (node_count n) arcs (length arcs) t
 
-abbrev pub listing : Loading → Listing
-listing l = record { r = l.graph.rows; level = l.level; root = l.root; caps = l.caps; readers = l.readers; grade = l.grade; root_fits = l.root_fits; fits = l.caps_fit }
+abbrev listing : Loading → Listing
+listing l = record { r = l.graph.rows; readers = l.readers }
 
 are_listed : (l : Loading) → AreSplitArcs (node_count l.n) l.arcs
 are_listed l =
@@ -140,13 +124,10 @@ are_listed l =
     (subst (λ (arcs : List SplitArc). AreSplitArcs (node_count (certificates l.graph).accounts) arcs) (sym l.listed) (are_split_arcs (listing l)))
 
 abbrev built : Loading → Built
-built l = record { n = l.n; arcs = l.arcs; t = l.t; fits = l.fits; few = l.few; long = l.long; are = are_listed l; laid = l.laid; placed = l.placed }
+built l = record { n = l.n; arcs = l.arcs; t = l.t; fits = l.fits; few = l.few; long = l.long; enough = l.enough; are = are_listed l; laid = l.laid; placed = l.placed }
 
-pub loaded : (l : Loading) → IsSplitGraph (certificates l.graph) l.level (cap_by l.root l.caps) (between (arcs_in l.n l.t))
-loaded l =
-    let among : List SplitArc → ℕ → ℕ → ℕ = λ arcs. capacity_among arcs (length arcs) in
-    split_same (certificates l.graph) l.level (cap_by l.root l.caps) (among (listed (listing l))) (between (arcs_in l.n l.t)) (split_graph (listing l))
-    (λ x y. l.placed.sums x y ∙ ap (λ (arcs : List SplitArc). among arcs x y) l.listed)
+pub laid_arcs : (l : Loading) → AreArcs (blank (arcs_in l.n l.t))
+laid_arcs l = are_arcs (built l)
 
 leads_at : (l : Loading) (x : SplitArc) (i : ℕ) → x.from < node_count (certificates l.graph).accounts → StandsAt (listed (listing l)) x i → LeadsTo (arcs_in l.n l.t) x.from x.to (get_or l.t.first x.from 0 + i)
 leads_at l x i below at = leads_to (built l) x i (omega (arith, below, l.size)) (subst (λ (arcs : List SplitArc). StandsAt arcs x i) (sym l.listed) at)
@@ -157,39 +138,25 @@ leads_first l x below at =
     subst (λ (i : ℕ). LeadsTo (arcs_in l.n l.t) x.from x.to i) e (leads_at l x 0 below at)
 
 through_place : (l : Loading) (x : Node) → IsNode (certificates l.graph).accounts x → LeadsTo (arcs_in l.n l.t) (first_half x) (second_half x) (get_or l.t.first (first_half x) 0)
-through_place l Root is = leads_first l (through_arc Root l.root) (omega arith) (root_at (listing l))
-through_place l (Account a) is = leads_first l (through_arc (Account a) (get_or l.caps a 0)) (omega arith) (through_at (listing l) a is)
+through_place l Root is = leads_first l (through_arc Root) (omega arith) (root_at (listing l))
+through_place l (Account a) is = leads_first l (through_arc (Account a)) (omega arith) (through_at (listing l) a is)
 
 along_place : (l : Loading) (x : Node) (i b : ℕ) → IsTaker l.graph.rows x i b → LeadsTo (arcs_in l.n l.t) (second_half x) (first_half (Account b)) (get_or l.t.first (second_half x) 0 + (i + 1))
 along_place l Root i b taken =
     subst (λ (k : ℕ). LeadsTo (arcs_in l.n l.t) 1 (2 * b + 2) (get_or l.t.first 1 0 + (k + 1))) taken.2
-    (leads_at l (edge_arc Root b unbounded) (seeds_before l.graph.rows b + 1) (omega arith) (seed_at (listing l) b taken.0 taken.1))
+    (leads_at l (edge_arc Root b) (seeds_before l.graph.rows b + 1) (omega arith) (seed_at (listing l) b taken.0 taken.1))
 along_place l (Account a) i b taken =
     subst (λ (k : ℕ). LeadsTo (arcs_in l.n l.t) (2 * a + 3) (2 * k + 2) (get_or l.t.first (2 * a + 3) 0 + (i + 1))) taken.2
-    (leads_at l (edge_arc (Account a) (taker l.graph.rows a i) (cert_capacity l.level (level_given l.graph.rows a i))) (i + 1) (omega (arith, taken.0)) (cert_at (listing l) a i taken.0 taken.1))
+    (leads_at l (edge_arc (Account a) (taker l.graph.rows a i)) (i + 1) (omega (arith, taken.0)) (cert_at (listing l) a i taken.0 taken.1))
 
-pub stands : (l : Loading) (room : Room) → AreCapacities (certificates l.graph) l.level l.graph.caps (cap_by l.root l.caps) → StandsFor (network room l.graph l.level l.n l.t)
-stands l room capacities = record {
-  grade = l.grade;
-  table = l.table;
-  readers = l.readers;
-  arcs = are_arcs (built l);
-  accounts = l.size;
-  places = record {
-    through = through_place l;
-    only =
-        let all : List SplitArc → ℕ = λ arcs. all_ends arcs 0 in
-        omega (arith, l.laid.goes_on 0 (omega arith), ap all l.listed, ends-root (listing l));
-    ends = λ b below. leads_at l (end_arc (certificates l.graph).accounts b) 1 (omega arith) (end_at (listing l) b below);
-    along = along_place l;
-  };
-  rests = record {
-    cap = cap_by l.root l.caps;
-    capacity = between (arcs_in l.n l.t);
-    capacities = capacities;
-    split = loaded l;
-    both = λ u v. refl;
-  };
+pub in_place : (l : Loading) → AreInPlace l.graph.rows (arcs_in l.n l.t)
+in_place l = record {
+  through = through_place l;
+  only =
+      let all : List SplitArc → ℕ = λ arcs. all_ends arcs 0 in
+      omega (arith, l.laid.goes_on 0 (omega arith), ap all l.listed, ends-root (listing l));
+  ends = λ b below. leads_at l (end_arc (certificates l.graph).accounts b) 1 (omega arith) (end_at (listing l) b below);
+  along = along_place l;
 }
 
 -- what holds of the graph without accounts
@@ -220,3 +187,17 @@ table_of_one =
 pub no_capacities : (level : Level) → AreCapacities (certificates nothing) level nothing.caps (cap_by 1 [])
 no_capacities level Root = inl (0, distance_of_root (certificates nothing) level, refl)
 no_capacities level (Account a) = inr (λ n walk. omega (arith, walk_within (certificates nothing) level n a walk), refl)
+
+-- its one arc has no capacity
+no_capacity_at : (level : Level) (first : List ℕ) (e c : ℕ) → IsCapacityAt nothing.rows level (cap_by 1 []) first e c → c ≡ 0
+no_capacity_at level first e c (inl (Root, is, at, of)) = of
+no_capacity_at level first e c (inl (Account a, is, at, of)) = absurd (omega arith)
+no_capacity_at level first e c (inr (inl (b, below, at, of))) = absurd (omega arith)
+no_capacity_at level first e c (inr (inr (Root, i, b, taken, at, of))) = absurd (omega (arith, taken.0))
+no_capacity_at level first e c (inr (inr (Account a, i, b, taken, at, of))) = absurd (omega (arith, taken.0))
+
+pub nothing_filled : (level : Level) (first rests : List ℕ) → ((e : ℕ) → get_or rests e 0 ≡ 0) → AreFilled nothing.rows level (cap_by 1 []) first rests
+nothing_filled level first rests none = record {
+  each = λ e c at. none e ∙ sym (no_capacity_at level first e c at);
+  only = λ e some. absurd (omega (arith, none e));
+}

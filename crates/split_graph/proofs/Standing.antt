@@ -1,37 +1,22 @@
 -- The arcs go on standing for what rests of the split graph.
-use Rattle.std.proofs.Common.{ℕ, zero, suc, Bool, true, false, ◌+◌, ◌*◌, ◌≡◌, ◌≢◌, ◌≤◌, ◌<◌, inl, inr, refl, arith, ap, sym, ◌∙◌, length-set, set, if◌then◌else◌, IsTrue}
+use Rattle.std.proofs.Common.{ℕ, zero, suc, Bool, true, false, ◌+◌, ◌≡◌, ◌≢◌, ◌≤◌, ◌<◌, inl, inr, refl, arith, ap, sym, ◌∙◌, length-set, set, if◌then◌else◌, IsTrue}
 use Rattle.std.specs.Prelude.{slice_index_or}
 use Rattle.std.proofs.lemmas.Bool.{cases_lt}
 use Rattle.trust_types.specs.declared.accounts.Node.{Node}
 use Rattle.trust_types.specs.declared.accounts.Node.TheVariants.{Root, Account}
-use Rattle.trust_types.specs.Graph.{Certificates, HasEdge}
+use Rattle.trust_types.specs.Graph.{HasEdge}
 use Rattle.frozen.specs.Revision.{certificates}
 use Rattle.trust_types.specs.Layout.{degree, given, Rows, accounts, taker}
-use Rattle.trust_types.specs.declared.levels.Level.{Level}
 use Rattle.split_graph.specs.Split.{first_half, second_half, IsNode, IsArc}
-use Rattle.split_graph.specs.Arcs.{Arcs, LeadsTo, arc_count, head_of, tail_of, rest_of, between, move_one}
-use Rattle.split_graph.specs.Network.{Network, IsSameNetwork, StandsFor, AreInPlace, seeds_before, given_count, IsTaker, arc_along}
+use Rattle.split_graph.specs.Arcs.{Arcs, arc_count, head_of, tail_of, rest_of, between, move_one}
+use Rattle.split_graph.specs.Network.{Network, IsSameNetwork, StandsFor, seeds_before, given_count, IsTaker, arc_along}
 use Rattle.split_graph.specs.Layout.{Table, IsAsLong}
 use Rattle.split_graph.specs.Held.{IsReserved}
-use Rattle.split_graph.proofs.Units.{moves_one, still_arcs, between-arc}
+use Rattle.split_graph.proofs.Units.{moves_one, still_arcs, still_in_place, between-arc}
 use Rattle.split_graph.proofs.Sums.{sum_below-next, sum_below-more}
-use Rattle.split_graph.proofs.Shapes.{shape}
-use Rattle.split_graph.proofs.Halves.{first_to_root_second, first_to_other_second}
 use Rattle.split_graph.proofs.Feasible.{number, edge_along}
-use Rattle.trust_types.proofs.Walks.{cert_of_edge}
+use Rattle.split_graph.proofs.Filling.{no_way_back, no_own_edge}
 use Rattle.split_graph.proofs.Ways.{both_ways}
-
--- the arcs lead where they led, whatever rests on them
-still_leads : (a : Arcs) (u v e d : ℕ) → LeadsTo a u v d → LeadsTo (move_one e a) u v d
-still_leads a u v e d leads = record { within = leads.within; tail = leads.tail; head = leads.head }
-
-still_in_place : (r : Rows) (a : Arcs) (e : ℕ) → AreInPlace r a → AreInPlace r (move_one e a)
-still_in_place r a e are = record {
-  through = λ x is. still_leads a _ _ e _ (are.through x is);
-  only = are.only;
-  ends = λ b below. still_leads a _ _ e _ (are.ends b below);
-  along = λ x i b taken. still_leads a _ _ e _ (are.along x i b taken);
-}
 
 pub still_stands : (n : Network) (e : ℕ) → StandsFor n → e < arc_count n.arcs → 0 < rest_of n.arcs e → StandsFor (record n { arcs = move_one e n.arcs })
 still_stands n e stands below some =
@@ -43,7 +28,7 @@ still_stands n e stands below some =
       readers = stands.readers;
       arcs = still_arcs a stands.arcs e below some;
       accounts = stands.accounts;
-      places = still_in_place n.graph.rows a e stands.places;
+      places = still_in_place n.graph.rows a (move_one e a).rest stands.places;
       rests = record {
         cap = stands.rests.cap;
         capacity = stands.rests.capacity;
@@ -61,10 +46,6 @@ rests_closed n stands u v none back =
     λ p q no. elim (cases_lt 0 (c p q)) [ inl some ↦ absurd (no (stands.rests.split.only p q some)) | inr nothing ↦ omega arith ] in
     omega (arith, stands.rests.both u v, zero u v none, zero v u back)
 
-no_way_back : (g : Certificates) (level : Level) (x : Node) (b : ℕ) → x ≢ Account b → IsArc g level (first_half (Account b)) (second_half x) → ⊥
-no_way_back g level Root b other arc = first_to_root_second g.accounts b (shape g level (2 * b + 2) 1 arc)
-no_way_back g level (Account a) b other arc = first_to_other_second g.accounts b a (λ same. other (ap Account same)) (shape g level (2 * b + 2) (2 * a + 3) arc)
-
 -- nothing can be moved along what is no edge
 pub closed_between : (n : Network) → StandsFor n → (x : Node) (b : ℕ) → x ≢ Account b → (HasEdge (certificates n.graph) n.level x b → ⊥) → between n.arcs (second_half x) (first_half (Account b)) ≡ 0
 closed_between n stands x b other no_edge =
@@ -76,9 +57,7 @@ taker_apart n stands Root i b taken same = absurd (cc)
 taker_apart n stands (Account a) i b taken same = stands.readers.others a i taken.0 taken.1 (taken.2 ∙ sym (ap number same))
 
 pub no_self : (n : Network) → StandsFor n → (a : ℕ) → HasEdge (certificates n.graph) n.level (Account a) a → ⊥
-no_self n stands a edge =
-    let found = cert_of_edge (certificates n.graph) (degree n.graph.rows) (given n.graph.rows) n.level a a stands.readers stands.grade edge in
-    stands.readers.others a found.0 edge.0 found.1 found.2
+no_self n stands = no_own_edge (certificates n.graph) (degree n.graph.rows) (given n.graph.rows) n.level stands.readers stands.grade
 
 -- what rests on the arc along a certificate
 pub rest_along : (n : Network) → StandsFor n → (x : Node) (i b : ℕ) → IsTaker n.graph.rows x i b → rest_of n.arcs (arc_along n.arcs x i) ≡ between n.arcs (second_half x) (first_half (Account b))
@@ -129,6 +108,15 @@ still_reserved accounts certs capacity capacity' t t' reserved long same = recor
     rest = long.rest ∙ reserved.table.rest;
   };
   list = same ∙ reserved.list;
+}
+
+pub as_long_twice : (t t' t'' : Table) → IsAsLong t t' → IsAsLong t' t'' → IsAsLong t t''
+as_long_twice t t' t'' one other = record {
+  first = other.first ∙ one.first;
+  next = other.next ∙ one.next;
+  head = other.head ∙ one.head;
+  twin = other.twin ∙ one.twin;
+  rest = other.rest ∙ one.rest;
 }
 
 pub long_after_move : (t : Table) (e k d m : ℕ) → IsAsLong t (record t { rest = set (set t.rest e k) d m })

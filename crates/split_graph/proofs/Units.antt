@@ -1,11 +1,13 @@
 -- One unit moved along an arc is one unit moved between its ends.
-use Rattle.std.proofs.Common.{ℕ, ◌+◌, ◌*◌, ◌-◌, ◌^◌, ◌≡◌, ◌≢◌, ◌≤◌, ◌<◌, inl, inr, refl, arith, ap, sym, subst, ◌∙◌, List, get_or, set, get_or-set_same, get_or-set_other, length-set}
+use Rattle.std.proofs.Common.{ℕ, ◌+◌, ◌*◌, ◌-◌, ◌^◌, ◌≡◌, ◌≢◌, ◌≤◌, ◌<◌, inl, inr, refl, arith, ap, sym, subst, ◌∙◌, List, length, get_or, set, get_or-set_same, get_or-set_other, length-set}
 use Rattle.std.proofs.lemmas.Bool.{cases_eq}
 use Rattle.std.proofs.lemmas.Bool.Decides.{nat_tests}
 use Rattle.trust_types.specs.Sum.{sum_below}
 use Rattle.trust_types.proofs.Sums.{sum_below-eq}
-use Rattle.split_graph.specs.Arcs.{Arcs, AreArcs, IsSameGraph, arc_count, head_of, twin_of, tail_of, rest_of, share, between, move_one}
+use Rattle.split_graph.specs.Arcs.{Arcs, AreArcs, IsSameGraph, LeadsTo, arc_count, head_of, twin_of, tail_of, rest_of, share, between, move_one}
+use Rattle.trust_types.specs.Layout.{Rows}
 use Rattle.split_graph.specs.Moved.{IsOneMoved}
+use Rattle.split_graph.specs.Network.{AreInPlace}
 use Rattle.split_graph.proofs.Sums.{sum_below-point, sum_below-lone, sum_below-none, sum_below-some}
 
 pub share_hit : (i j x y k : ℕ) → i ≡ x → j ≡ y → share i j x y k ≡ k
@@ -150,43 +152,61 @@ moves_one a are e below some =
       same = λ x y there back. sum_below-eq n (after x y) (before x y) (λ d lt. elsewhere a are e d x y below there back);
     }
 
--- the arrays still belong together
+-- the arrays belong together and lead where they led, whatever rests on them
+abbrev pub with_rests : Arcs → List ℕ → Arcs
+with_rests a rests = record { accounts = a.accounts; first = a.first; head = a.head; twin = a.twin; rest = rests }
+
+pub other_rests : (a : Arcs) (rests : List ℕ) → AreArcs a → arc_count a ≤ length rests → ((e : ℕ) → e < arc_count a → get_or rests e 0 + get_or rests (twin_of a e) 0 < 2 ^ 32) → AreArcs (with_rests a rests)
+other_rests a rests are long room = record {
+  few = are.few;
+  accounts_fit = are.accounts_fit;
+  first_long = are.first_long;
+  head_long = are.head_long;
+  twin_long = are.twin_long;
+  rest_long = long;
+  first_within = are.first_within;
+  head_within = are.head_within;
+  twin_within = are.twin_within;
+  twin_back = are.twin_back;
+  apart = are.apart;
+  simple = are.simple;
+  from_first = are.from_first;
+  before_next = are.before_next;
+  leaves = are.leaves;
+  room = room;
+}
+
+still_leads : (a : Arcs) (rests : List ℕ) (u v e : ℕ) → LeadsTo a u v e → LeadsTo (with_rests a rests) u v e
+still_leads a rests u v e leads = record { within = leads.within; tail = leads.tail; head = leads.head }
+
+pub still_in_place : (r : Rows) (a : Arcs) (rests : List ℕ) → AreInPlace r a → AreInPlace r (with_rests a rests)
+still_in_place r a rests are = record {
+  through = λ x is. still_leads a rests _ _ _ (are.through x is);
+  only = are.only;
+  ends = λ b below. still_leads a rests _ _ _ (are.ends b below);
+  along = λ x i b taken. still_leads a rests _ _ _ (are.along x i b taken);
+}
+
 pub still_arcs : (a : Arcs) → AreArcs a → (e : ℕ) → e < arc_count a → 0 < rest_of a e → AreArcs (move_one e a)
 still_arcs a are e below some =
     let b : Arcs = move_one e a in
     let t : ℕ = twin_of a e in
-    record {
-      few = are.few;
-      accounts_fit = are.accounts_fit;
-      first_long = are.first_long;
-      head_long = are.head_long;
-      twin_long = are.twin_long;
-      rest_long = omega (arith, are.rest_long, length-set a.rest e (rest_of a e - 1), length-set (set a.rest e (rest_of a e - 1)) t (rest_of a t + 1));
-      first_within = are.first_within;
-      head_within = are.head_within;
-      twin_within = are.twin_within;
-      twin_back = are.twin_back;
-      apart = are.apart;
-      simple = are.simple;
-      from_first = are.from_first;
-      before_next = are.before_next;
-      leaves = are.leaves;
-      room = λ d lt.
-          let sum_at : ℕ → Type 0 = λ i. rest_of b i + rest_of b (twin_of a i) < 2 ^ 32 in
-          elim (cases_eq d e) [
-            | inl same ↦ subst sum_at (sym same) (omega (arith, are.room e below, rest_down a are e below, rest_up a are e below))
-            | inr other ↦
-                elim (cases_eq d t) [
-                  | inl same ↦
-                      let back : rest_of b (twin_of a t) ≡ rest_of b e = ap (rest_of b) (are.twin_back e below) in
-                      subst sum_at (sym same) (omega (arith, back, are.room e below, rest_down a are e below, rest_up a are e below))
-                  | inr apart ↦
-                      let not_twin : twin_of a d ≢ e = λ same. apart (sym (are.twin_back d lt) ∙ ap (twin_of a) same) in
-                      let not_twins : twin_of a d ≢ t = λ same. other (sym (are.twin_back d lt) ∙ ap (twin_of a) same ∙ are.twin_back e below) in
-                      omega (arith, rest_other a e d other apart, rest_other a e (twin_of a d) not_twin not_twins, are.room d lt)
-                ]
-          ];
-    }
+    other_rests a b.rest are (omega (arith, are.rest_long, length-set a.rest e (rest_of a e - 1), length-set (set a.rest e (rest_of a e - 1)) t (rest_of a t + 1)))
+    (λ d lt.
+    let sum_at : ℕ → Type 0 = λ i. rest_of b i + rest_of b (twin_of a i) < 2 ^ 32 in
+    elim (cases_eq d e) [
+      | inl same ↦ subst sum_at (sym same) (omega (arith, are.room e below, rest_down a are e below, rest_up a are e below))
+      | inr other ↦
+          elim (cases_eq d t) [
+            | inl same ↦
+                let back : rest_of b (twin_of a t) ≡ rest_of b e = ap (rest_of b) (are.twin_back e below) in
+                subst sum_at (sym same) (omega (arith, back, are.room e below, rest_down a are e below, rest_up a are e below))
+            | inr apart ↦
+                let not_twin : twin_of a d ≢ e = λ same. apart (sym (are.twin_back d lt) ∙ ap (twin_of a) same) in
+                let not_twins : twin_of a d ≢ t = λ same. other (sym (are.twin_back d lt) ∙ ap (twin_of a) same ∙ are.twin_back e below) in
+                omega (arith, rest_other a e d other apart, rest_other a e (twin_of a d) not_twin not_twins, are.room d lt)
+          ]
+    ])
 
 -- the same arcs lead where they led
 pub same_count : (a b : Arcs) → IsSameGraph a b → arc_count b ≡ arc_count a

@@ -2,6 +2,7 @@
 #![tactic(auto)]
 
 mod arc_table;
+mod capacities;
 mod residual_graph;
 mod split_arcs;
 mod split_nodes;
@@ -9,4 +10,4 @@ mod split_nodes;
 mod tests;
 
 pub use residual_graph::Residual;
-pub use split_nodes::{first_half, second_half, supersink};
+pub use split_nodes::{entered_account, first_half, second_half, supersink};

@@ -6,19 +6,19 @@ ghost use Rattle.trust_types.specs.Levels.{IsGrade};
 ghost use Rattle.trust_types.specs.Graph.{HasEdge};
 ghost use Rattle.trust_types.specs.Capacity.{entry, AreCapacities, cap_by};
 ghost use Rattle.frozen.specs.Revision.{certificates};
-ghost use Rattle.split_graph.specs.Split.{first_half, second_half, node_count, IsNode, IsSplitGraph};
+ghost use Rattle.split_graph.specs.Split.{first_half, second_half, supersink, node_count, IsNode, IsSplitGraph};
 ghost use Rattle.split_graph.specs.Moved.{IsOneMoved};
 ghost use Rattle.split_graph.specs.Arcs.{arc_count, first_of, head_of, tail_of, rest_of, between, move_one, LeadsTo};
 ghost use Rattle.split_graph.specs.Network.{Fits, StandsFor, nothing, given_count, IsTaker, arc_along};
 
 use crate::arc_table::ArcTable;
 use crate::split_arcs::{SplitArc, list_arcs, through_arc};
-use crate::split_nodes::second_half;
+use crate::split_nodes::{first_half, second_half};
 use frozen::Frozen;
 use std::alloc::Global;
 use std::marker::Model;
 use std::snapshot::Snapshot;
-use trust_types::{CertGraph, Level, NoMemory, Node};
+use trust_types::{AccountNo, CertGraph, Level, NoMemory, Node};
 
 /// What may still be moved along the arcs of Levien's split graph of a site at a level. Contracts see the room that was
 /// reserved, the graph and the level that were loaded, and the arcs with what rests on each.
@@ -50,7 +50,7 @@ impl Model for Residual {
 
 impl Residual {
     /// Room for the split graphs of sites with at most so many accounts and certificates. All memory is taken here: about
-    /// 124 bytes an account and 36 a certificate. Until a graph is loaded it stands for one without accounts.
+    /// 112 bytes an account and 32 a certificate. Until a graph is loaded it stands for one without accounts.
     ///
     /// # Errors
     /// [`NoMemory`] where that memory can't be had.
@@ -63,7 +63,7 @@ impl Residual {
         let most_nodes = 2 * accounts as usize + 3;
         let most_arcs = 3 * accounts as usize + certs as usize + 1;
         let mut arcs = Vec::with_capacity(alloc, most_arcs)?;
-        arcs.push_reserved(through_arc(&Node::Root, 1));
+        arcs.push_reserved(through_arc(&Node::Root));
         let mut table = ArcTable::reserve(alloc, most_nodes, most_arcs)?;
         table.build(3, &arcs);
         Ok(Residual {
@@ -95,9 +95,29 @@ impl Residual {
         self.graph = Some(Snapshot::of(frozen));
         self.level = level;
         self.accounts = frozen.accounts();
-        let root = frozen.caps().at(0);
-        list_arcs(frozen, level, root, caps_of, &mut self.arcs);
+        list_arcs(frozen, &mut self.arcs);
         self.table.build(2 * self.accounts as usize + 3, &self.arcs);
+        let root = frozen.caps().at(0);
+        self.table.fill(frozen, level, root, caps_of);
+    }
+
+    /// Loads another level of the graph that is loaded, where these are the capacities of its accounts there, by number: as
+    /// `load` does, but the arcs stay where they are. No units are on them.
+    ///
+    /// It takes no memory, and time linear in accounts and certificates: a small part of what `load` takes.
+    pub fn reload(&mut self, frozen: &Frozen, level: Level, caps_of: &[u32])
+        requires graph { self.old.graph ≡ frozen.now }
+        requires grade { IsGrade level }
+        requires places { length caps_of.now ≡ (certificates frozen.now).accounts }
+        requires capacities { AreCapacities (certificates frozen.now) level frozen.now.caps (cap_by (entry frozen.now.caps 0) caps_of.now) }
+        ensures room { self.new.room ≡ self.old.room }
+        ensures graph { self.new.graph ≡ frozen.now }
+        ensures level { self.new.level ≡ level }
+        ensures split { IsSplitGraph (certificates frozen.now) level (cap_by (entry frozen.now.caps 0) caps_of.now) (between self.new.arcs) }
+        ensures stands { StandsFor self.new }
+    {
+        self.level = level;
+        self.table.fill(frozen, level, frozen.caps().at(0), caps_of);
     }
 
     /// Moves one unit along an arc on which something rests. From then on one less may be moved along it, and one more back.
@@ -150,5 +170,14 @@ impl Residual {
         ensures closed { (b : ℕ) → IsTaker self.now.graph.rows from i b → ¬ (HasEdge (certificates self.now.graph) self.now.level from b) → rest_of self.now.arcs result ≡ 0 }
     {
         self.table.first(second_half(&from)) + (i + 1)
+    }
+
+    /// The arc from an account to the supersink. A unit may be moved along it while the account isn't served.
+    pub fn end_arc(&self, account: AccountNo) -> u32
+        requires { account < (certificates self.now.graph).accounts }
+        ensures place { result ≡ first_of self.now.arcs (first_half (Account account)) + 1 }
+        ensures ends { LeadsTo self.now.arcs (first_half (Account account)) (supersink self.now.arcs.accounts) result }
+    {
+        self.table.first(first_half(&Node::Account(account))) + 1
     }
 }

@@ -1,6 +1,7 @@
 //! The numbers of the split nodes.
 
-ghost use Rattle.std.specs.Prelude.{◌≡◌, ◌<◌, ◌≤◌, ◌^◌};
+ghost use Rattle.std.specs.Prelude.{ℕ, ◌≡◌, ◌≢◌, ◌<◌, ◌≤◌, ◌^◌, MatchOption};
+ghost use Rattle.trust_types.specs.declared.accounts.Node.TheVariants.{Account};
 ghost use Rattle.split_graph.specs.Split.{first_half, second_half, supersink, IsNode};
 
 use trust_types::{AccountNo, Node};
@@ -33,4 +34,14 @@ pub fn supersink(accounts: u32) -> u32
     ensures { result ≡ supersink accounts }
 {
     2 * accounts + 2
+}
+
+/// The account of which this is the first half; `None` for a second half, and for the root's first.
+pub fn entered_account(node: u32) -> Option<AccountNo>
+    ensures { MatchOption result ((a : ℕ) → node ≢ first_half (Account a)) (λ a. node ≡ first_half (Account a)) }
+{
+    if node < 2 || node % 2 == 1 {
+        return None;
+    }
+    Some(AccountNo(node / 2 - 1))
 }

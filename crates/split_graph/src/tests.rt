@@ -105,6 +105,20 @@ fn load(frozen: &Frozen, level: Level, queue: &mut Queue, residual: &mut Residua
     residual.load(frozen, level, &caps_of);
 }
 
+/// Loads it at another level.
+fn reload(frozen: &Frozen, level: Level, queue: &mut Queue, residual: &mut Residual)
+    requires grade { IsGrade level }
+    requires accounts { (certificates frozen.now).accounts ≡ 3 }
+    requires graph { residual.old.graph ≡ frozen.now }
+    requires queue { queue.old ≡ 3 }
+    ensures graph { residual.new.graph ≡ frozen.now }
+    ensures stands { StandsFor residual.new }
+{
+    let mut caps_of = [0; 3];
+    capacities(frozen, level, frozen.caps(), &mut caps_of, queue);
+    residual.reload(frozen, level, &caps_of);
+}
+
 #[test]
 fn a_level_has_its_arcs(rt: HostRuntime) -> Result<(), Fail> {
     let frozen = site(rt.alloc())?;
@@ -134,5 +148,18 @@ fn a_level_has_its_arcs(rt: HostRuntime) -> Result<(), Fail> {
     for i in 0..frozen.degree(AccountNo(0)) {
         assert_eq!(rt; residual.arc_of(Node::Account(AccountNo(0)), i), 7 + i);
     }
+    Ok(())
+}
+
+#[test]
+fn another_level_has_its_own_rests(rt: HostRuntime) -> Result<(), Fail> {
+    let frozen = site(rt.alloc())?;
+    let mut queue = Queue::reserve(rt.alloc(), 3)?;
+    let mut residual = Residual::reserve(rt.alloc(), 3, frozen.certs())?;
+    load(&frozen, Level::Master, &mut queue, &mut residual);
+    reload(&frozen, Level::Apprentice, &mut queue, &mut residual);
+    assert_eq!(rt; residual.first(9), 20);
+    // the certificate as Apprentice counts now
+    assert_eq!(rt; residual.rest(8), NO_BOUND);
     Ok(())
 }
