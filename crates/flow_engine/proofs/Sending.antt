@@ -1,14 +1,13 @@
 -- One unit is moved back along the way that a search found.
-use Rattle.std.proofs.Common.{ℕ, ◌≡◌, ◌≢◌, ◌≤◌, ◌<◌, inl, inr, refl, arith, ap, sym, subst, ◌∙◌}
-use Rattle.std.proofs.lemmas.Bool.{cases_lt}
+use Rattle.std.proofs.Common.{ℕ, ◌≡◌, ◌≢◌, ◌≤◌, ◌<◌, refl, arith, ap, sym, subst, ◌∙◌}
 use Rattle.split_graph.specs.Split.{supersink}
 use Rattle.split_graph.specs.Moved.{PassesServed, IsOneMoved, IsMidway}
 use Rattle.split_graph.specs.Arcs.{Arcs, AreArcs, IsSameGraph, arc_count, head_of, tail_of, rest_of, between, move_one}
 use Rattle.split_graph.specs.Network.{Network, IsSameNetwork}
-use Rattle.split_graph.proofs.Units.{arc-between, rest_kept, moves_one, same_count, same_head, same_tail}
+use Rattle.split_graph.proofs.Units.{rest_kept, moves_one, same_count, same_head, same_tail}
 use Rattle.split_graph.proofs.Standing.{same_network, same_network-moved}
 use Rattle.split_graph.proofs.Ways.{way_begins, way_goes_on, still_served}
-use Rattle.flow_engine.specs.Tree.{Reached, IsTree, AreDone, IsSearching, EndsWay, node_at, via_at, back_at, reached_count}
+use Rattle.flow_engine.specs.Tree.{Reached, IsTree, IsWay, node_at, via_at, back_at, reached_count}
 
 -- the unit has gone from the supersink back to the node at place i of a way that ended at place at
 pub record Sending (before now : Network) (s : Reached) (at i : ℕ) : Type 0 where
@@ -19,21 +18,15 @@ pub record Sending (before now : Network) (s : Reached) (at i : ℕ) : Type 0 wh
   pub served : PassesServed before.arcs.accounts (between now.arcs)
   pub dry : (j : ℕ) → j < at → between now.arcs (node_at s j) (supersink before.arcs.accounts) ≡ 0
 
--- nothing can be moved to the supersink from a place that is done
-dry_before : (a : Arcs) (s : Reached) (at : ℕ) → AreDone a s at → (j : ℕ) → j < at → between a (node_at s j) (supersink a.accounts) ≡ 0
-dry_before a s at done j lt =
-    elim (cases_lt 0 (between a (node_at s j) (supersink a.accounts))) [
-      | inl some ↦ let e = arc-between a (node_at s j) (supersink a.accounts) some in absurd ((done j lt e.0 e.1 e.2 e.4).0 e.3)
-      | inr none ↦ omega arith
-    ]
-
 -- the last arc of the way is moved along first
-pub send_first : (n : Network) (s : Reached) (at e : ℕ) → AreArcs n.arcs → IsSearching n.arcs s at → at < reached_count s → EndsWay n.arcs s at e → PassesServed n.arcs.accounts (between n.arcs) →
+pub send_first : (n : Network) (s : Reached) (at e : ℕ) → AreArcs n.arcs → IsWay n.arcs s at e → PassesServed n.arcs.accounts (between n.arcs) →
     Sending n (record n { arcs = move_one e n.arcs }) s at at
-send_first n s at e are searching placed ends served =
+send_first n s at e are way served =
     let a : Arcs = n.arcs in
     let last : ℕ = supersink a.accounts in
-    let tree = searching.tree in
+    let tree = way.tree in
+    let placed = way.placed in
+    let ends = way.ends in
     let b : Arcs = move_one e a in
     let p : ℕ = node_at s at in
     let moved : IsOneMoved (between a) (between b) p last =
@@ -52,7 +45,7 @@ send_first n s at e are searching placed ends served =
       served = still_served a.accounts (between a) (between b) p last served moved (λ other. absurd (other refl)) (omega arith);
       dry = λ j lt.
           moved.same (node_at s j) last (λ same _. tree.apart j at lt placed same) (λ same _. omega (arith, tree.below j (omega arith)))
-          ∙ dry_before a s at searching.done j lt;
+          ∙ way.closed j lt;
     }
 
 -- and then each arc before

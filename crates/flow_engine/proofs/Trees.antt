@@ -1,18 +1,24 @@
 -- How a search grows, and what it has reached when it ends.
-use Rattle.std.proofs.Common.{ℕ, Bool, true, false, ◌+◌, ◌≡◌, ◌≢◌, ◌≤◌, ◌<◌, inl, inr, refl, arith, ap, sym, subst, ◌∙◌, [], ◌∷◌, ◌++◌, length, length-append, get_or, set, get_or-set_same, get_or-set_other, length-set, cond}
-use Rattle.std.proofs.lemmas.Bool.{cases_eq}
+use Rattle.std.proofs.Common.{ℕ, suc, List, Bool, true, false, ◌+◌, ◌≡◌, ◌≢◌, ◌≤◌, ◌<◌, inl, inr, refl, arith, ap, sym, subst, ◌∙◌, [], ◌∷◌, ◌++◌, length, length-append, get_or, set, get_or-set_same, get_or-set_other, length-set, cond}
+use Rattle.std.proofs.lemmas.Bool.{cases_eq, cases_lt}
 use Rattle.std.proofs.lemmas.List.{get_or_append_left, get_or_at}
-use Rattle.std.proofs.lemmas.List.Sums.{sum_by-set, count_by-le-length}
-use Rattle.split_graph.specs.Split.{supersink}
+use Rattle.std.specs.List.{count_by}
+use Rattle.std.proofs.lemmas.List.Sums.{sum_by-cons, sum_by-set, count_by-le-length}
+use Rattle.trust_types.specs.declared.accounts.Node.TheVariants.{Account}
+use Rattle.trust_types.specs.Graph.{Certificates}
+use Rattle.frozen.specs.Revision.{certificates}
+use Rattle.split_graph.specs.Split.{supersink, first_half}
 use Rattle.split_graph.specs.Moved.{IsSaturated}
 use Rattle.split_graph.specs.Arcs.{Arcs, AreArcs, arc_count, head_of, tail_of, rest_of, first_of, between}
 use Rattle.split_graph.proofs.Counted.{not_both}
-use Rattle.split_graph.proofs.Units.{arc-between}
+use Rattle.split_graph.specs.Network.{Network, StandsFor}
+use Rattle.split_graph.proofs.Shapes.{Shape, out_of_sink, no_capacity}
+use Rattle.split_graph.proofs.Units.{between-arc, arc-between}
 use Rattle.flow_engine.specs.declared.searches.Place.{Place}
-use Rattle.flow_engine.specs.Tree.{Reached, HasRoom, IsTree, IsDone, AreDone, IsSearching, IsGrown, IsBegun, IsLookedAt, no_place, node_at, via_at, back_at, is_seen, reached_count, reach}
+use Rattle.flow_engine.specs.Tree.{Reached, HasRoom, IsTree, IsSearching, IsGrown, IsBegun, IsLookedAt, AreLookedAt, returns_from, IsClosed, AreClosed, LeadsOn, EndsWay, IsWay, no_place, node_at, via_at, back_at, is_seen, reached_count, reach}
 
 -- there is room for a node that was not seen
-pub room_for : (n : ℕ) (a : Arcs) (s : Reached) → HasRoom n s → IsTree a s → (v : ℕ) → v < length s.seen → is_seen s v ≡ false → reached_count s < s.room
+room_for : (n : ℕ) (a : Arcs) (s : Reached) → HasRoom n s → IsTree a s → (v : ℕ) → v < length s.seen → is_seen s v ≡ false → reached_count s < s.room
 room_for n a s room tree v below fresh =
     let weight : Bool → ℕ = λ b. cond b 1 0 in
     let more = sum_by-set weight s.seen v true false below in
@@ -73,7 +79,7 @@ grows a s e at room tree placed below from some inside fresh =
     let node_last : node_at t n ≡ v = ap (λ (q : Place). q.node) (place_now s p) in
     let via_last : via_at t n ≡ e = ap (λ (q : Place). q.via) (place_now s p) in
     let back_last : back_at t n ≡ at = ap (λ (q : Place). q.back) (place_now s p) in
-    let not_before : (i : ℕ) → i < n → node_at s i ≢ v = λ i lt same. not_both (is_seen s v) (ap (is_seen s) (sym same) ∙ tree.marked i lt) fresh in
+    let not_before : (i : ℕ) → i < n → node_at s i ≢ v = λ i lt same. not_both (is_seen s v) (ap (is_seen s) (sym same) ∙ tree.marks.marked i lt) fresh in
     record {
       has_source = omega (arith, next);
       source = node 0 tree.has_source ∙ tree.source;
@@ -97,39 +103,23 @@ grows a s e at room tree placed below from some inside fresh =
             | inr other ↦
                 λ e. tree.apart i j before (omega (arith, next)) (sym (node i (omega (arith, next))) ∙ e ∙ node j (omega (arith, next)))
           ];
-      marked = placewise n m (λ i. is_seen t (node_at t i) ≡ true) next
-          (λ i lt. ap (is_seen t) (node i lt) ∙ seen_stays s v e at (node_at s i) v_below (tree.marked i lt))
-          (ap (is_seen t) node_last ∙ seen_now s v e at v_below);
-      only = λ w marked.
-          elim (cases_eq w v) [
-            | inl same ↦ (n, omega (arith, next), node_last ∙ sym same)
-            | inr other ↦
-                let was = tree.only w (sym (seen_before s v e at w other) ∙ marked) in
-                (was.0, omega (arith, was.1, next), node was.0 was.1 ∙ was.2)
-          ];
+      marks = record {
+        marked = placewise n m (λ i. is_seen t (node_at t i) ≡ true) next
+            (λ i lt. ap (is_seen t) (node i lt) ∙ seen_stays s v e at (node_at s i) v_below (tree.marks.marked i lt))
+            (ap (is_seen t) node_last ∙ seen_now s v e at v_below);
+        only = λ w marked.
+            elim (cases_eq w v) [
+              | inl same ↦ (n, omega (arith, next), node_last ∙ sym same)
+              | inr other ↦
+                  let was = tree.marks.only w (sym (seen_before s v e at w other) ∙ marked) in
+                  (was.0, omega (arith, was.1, next), node was.0 was.1 ∙ was.2)
+            ];
+      };
       number =
           let weight : Bool → ℕ = λ b. cond b 1 0 in
           let more = sum_by-set weight s.seen v true false v_below in
           let was : weight (get_or s.seen v false) ≡ 0 = ap weight fresh in
           omega (arith, more, was, tree.number, next);
-    }
-
--- places that were done stay done
-done_stays : (a : Arcs) (s : Reached) (node arc at i : ℕ) → node < length s.seen → i < reached_count s → IsDone a s i → IsDone a (reach node arc at s) i
-done_stays a s node arc at i below lt done e within from some =
-    let was = done e within (from ∙ ap (λ (q : Place). q.node) (place_stays s (record { node = node; via = arc; back = at }) i lt)) some in
-    (was.0, seen_stays s node arc at (head_of a e) below was.1)
-
--- one step of a search: a node that was not seen is reached
-pub reaches : (a : Arcs) (s : Reached) (e at : ℕ) → AreArcs a → IsSearching a s at → at < reached_count s → e < arc_count a → tail_of a e ≡ node_at s at → 0 < rest_of a e →
-    head_of a e ≢ supersink a.accounts → is_seen s (head_of a e) ≡ false → IsSearching a (reach (head_of a e) e at s) at
-reaches a s e at are searching placed below from some other fresh =
-    let v : ℕ = head_of a e in
-    let inside : v < supersink a.accounts = omega (arith, are.head_within e below) in
-    record {
-      room = room_stays a.accounts s v e at searching.room;
-      tree = grows a s e at searching.room searching.tree placed below from some inside fresh;
-      done = λ i lt. done_stays a s v e at i (omega (arith, searching.room.seen)) (omega arith) (searching.done i lt);
     }
 
 pub grown : (s : Reached) (node arc at : ℕ) → node < length s.seen → IsGrown s (reach node arc at s)
@@ -139,10 +129,12 @@ grown s node arc at below = record {
   seen = λ v was. seen_stays s node arc at v below was;
   room = refl;
   long = length-set s.seen node true;
+  ahead = refl;
+  behind = refl;
 }
 
 pub not_grown : (s : Reached) → IsGrown s s
-not_grown s = record { count = omega arith; node = λ i lt. refl; seen = λ v was. was; room = refl; long = refl }
+not_grown s = record { count = omega arith; node = λ i lt. refl; seen = λ v was. was; room = refl; long = refl; ahead = refl; behind = refl }
 
 pub grown_twice : (s t w : Reached) → IsGrown s t → IsGrown t w → IsGrown s w
 grown_twice s t w first then = record {
@@ -151,38 +143,192 @@ grown_twice s t w first then = record {
   seen = λ v was. then.seen v (first.seen v was);
   room = then.room ∙ first.room;
   long = then.long ∙ first.long;
+  ahead = then.ahead ∙ first.ahead;
+  behind = then.behind ∙ first.behind;
 }
 
 -- arcs that were looked at stay so
 pub looked_at_stays : (a : Arcs) (s t : Reached) (e : ℕ) → IsGrown s t → IsLookedAt a s e → IsLookedAt a t e
-looked_at_stays a s t e grown was some = let h = was some in (h.0, grown.seen (head_of a e) h.1)
+looked_at_stays a s t e grown was some = grown.seen (head_of a e) (was some)
 
--- a place is done once each of its arcs was looked at
-pub done_all : (a : Arcs) (s : Reached) (at u : ℕ) → AreArcs a → u ≡ node_at s at →
-    ((e : ℕ) → first_of a u ≤ e → e < first_of a (u + 1) → IsLookedAt a s e) → IsDone a s at
-done_all a s at u are is all e below from some =
-    let P : ℕ → Type 0 = λ k. (first_of a k ≤ e) × (e < first_of a (k + 1)) in
-    let here : P u = subst P (from ∙ sym is) (are.from_first e below, are.before_next e below) in
-    all e here.0 here.1 some
+-- the same of some arcs of the node at a place
+looked_on : (a : Arcs) (s t : Reached) (from to : ℕ → ℕ) (i : ℕ) → IsGrown s t → i < reached_count s → AreLookedAt a s (from (node_at s i)) (to (node_at s i)) → AreLookedAt a t (from (node_at t i)) (to (node_at t i))
+looked_on a s t from to i grown lt looked =
+    subst (λ (v : ℕ). AreLookedAt a t (from v) (to v)) (sym (grown.node i lt)) (λ e least below. looked_at_stays a s t e grown (looked e least below))
 
-pub done_one_more : (a : Arcs) (s : Reached) (at : ℕ) → AreDone a s at → IsDone a s at → AreDone a s (at + 1)
-done_one_more a s at before here = placewise at (at + 1) (λ i. IsDone a s i) refl before here
+-- a search, and an arc that leads on from the node at its place
+pub record Step : Type 0 where
+  pub a : Arcs
+  pub s : Reached
+  pub at : ℕ
+  pub e : ℕ
+  pub are : AreArcs a
+  pub searching : IsSearching a s
+  pub leads : LeadsOn a s at e
+
+abbrev pub step : {a : Arcs} {s : Reached} {at e : ℕ} → AreArcs a → IsSearching a s → LeadsOn a s at e → Step
+step {a = a} {s = s} {at = at} {e = e} are searching leads = record { a = a; s = s; at = at; e = e; are = are; searching = searching; leads = leads }
+
+-- it doesn't lead to the supersink, to which nothing can be moved from a node that was reached
+pub inside : (t : Step) → head_of t.a t.e < supersink t.a.accounts
+inside t =
+    let last : ℕ = supersink t.a.accounts in
+    let other : head_of t.a t.e ≢ last = λ same.
+    let rest : between t.a (node_at t.s t.at) last ≡ rest_of t.a t.e =
+    ap (λ (u : ℕ). between t.a u last) (sym t.leads.tail) ∙ ap (between t.a (tail_of t.a t.e)) (sym same) ∙ between-arc t.a t.are t.e t.leads.within in
+    absurd (omega (arith, rest, t.searching.closed t.at t.leads.placed, t.leads.passable)) in
+    omega (arith, t.are.head_within t.e t.leads.within)
+
+pub room_to_enter : (t : Step) → reached_count t.s < t.s.room
+room_to_enter t = room_for t.a.accounts t.a t.s t.searching.room t.searching.tree (head_of t.a t.e) (omega (arith, inside t, t.searching.room.seen)) t.leads.fresh
+
+abbrev pub entered : Step → Reached
+entered t = reach (head_of t.a t.e) t.e t.at t.s
+
+tree_after : (t : Step) → IsTree t.a (entered t)
+tree_after t = grows t.a t.s t.e t.at t.searching.room t.searching.tree t.leads.placed t.leads.within t.leads.tail t.leads.passable (inside t) t.leads.fresh
+
+node_entered : (t : Step) → node_at (entered t) (reached_count t.s) ≡ head_of t.a t.e
+node_entered t = ap (λ (q : Place). q.node) (place_now t.s (record { node = head_of t.a t.e; via = t.e; back = t.at }))
+
+closed_before : (t : Step) → AreClosed t.a (entered t) (reached_count t.s)
+closed_before t i lt =
+    ap (λ (v : ℕ). between t.a v (supersink t.a.accounts)) (ap (λ (q : Place). q.node) (place_stays t.s (record { node = head_of t.a t.e; via = t.e; back = t.at }) i lt))
+    ∙ t.searching.closed i lt
+
+-- a way ends there
+pub way_found : (t : Step) (end : ℕ) → EndsWay t.a (head_of t.a t.e) end → IsWay t.a (entered t) (reached_count t.s) end
+way_found t end ends = record {
+  tree = tree_after t;
+  placed = omega (arith, one_more t.s (head_of t.a t.e) t.e t.at);
+  closed = closed_before t;
+  ends = subst (λ (v : ℕ). EndsWay t.a v end) (sym (node_entered t)) ends;
+}
+
+-- none does
+pub goes_on : (t : Step) → IsClosed t.a (head_of t.a t.e) → IsSearching t.a (entered t)
+goes_on t closed =
+    let v : ℕ = head_of t.a t.e in
+    let more : IsGrown t.s (entered t) = grown t.s v t.e t.at (omega (arith, inside t, t.searching.room.seen)) in
+    record {
+      room = room_stays t.a.accounts t.s v t.e t.at t.searching.room;
+      tree = tree_after t;
+      inside = omega (arith, t.searching.inside, more.count);
+      order = t.searching.order;
+      ahead = λ i lt. looked_on t.a t.s (entered t) (first_of t.a) (returns_from t.a) i more (omega (arith, t.searching.inside)) (t.searching.ahead i lt);
+      behind = λ i lt. looked_on t.a t.s (entered t) (returns_from t.a) (λ u. first_of t.a (u + 1)) i more (omega (arith, t.searching.inside, t.searching.order)) (t.searching.behind i lt);
+      closed = placewise (reached_count t.s) (reached_count (entered t)) (λ i. IsClosed t.a (node_at (entered t) i)) (one_more t.s v t.e t.at) (closed_before t)
+          (ap (λ (u : ℕ). between t.a u (supersink t.a.accounts)) (node_entered t) ∙ closed);
+    }
 
 not_seen : (b : Bool) → (b ≡ true → ⊥) → b ≡ false
 not_seen true never = absurd (never refl)
 not_seen false never = refl
 
--- once all places are done, nothing can be moved out of the nodes reached
-pub saturated : (a : Arcs) (s : Reached) → IsTree a s → AreDone a s (reached_count s) → IsSaturated a.accounts (between a) (is_seen s)
-saturated a s tree done = record {
-  source = ap (is_seen s) (sym tree.source) ∙ tree.marked 0 tree.has_source;
-  stops = not_seen (is_seen s (supersink a.accounts)) (λ was. let i = tree.only (supersink a.accounts) was in absurd (omega (arith, tree.below i.0 i.1, i.2)));
-  closed = λ u v was some.
-      let i = tree.only u was in
-      let e = arc-between a u v some in
-      let next = done i.0 i.1 e.0 e.1 (e.2 ∙ sym i.2) e.4 in
-      ap (is_seen s) (sym e.3) ∙ next.1;
+abbrev pub with_ahead : ℕ → Reached → Reached
+with_ahead k s = record { places = s.places; seen = s.seen; room = s.room; ahead = k; behind = s.behind }
+
+abbrev pub with_behind : ℕ → Reached → Reached
+with_behind k s = record { places = s.places; seen = s.seen; room = s.room; ahead = s.ahead; behind = k }
+
+-- a tree has nothing to do with the arcs that are still to be looked at
+same_tree : (a : Arcs) (s : Reached) (ahead behind : ℕ) → IsTree a s → IsTree a (record { places = s.places; seen = s.seen; room = s.room; ahead = ahead; behind = behind })
+same_tree a s ahead behind tree = record {
+  has_source = tree.has_source;
+  source = tree.source;
+  below = tree.below;
+  earlier = tree.earlier;
+  arc = tree.arc;
+  tail = tree.tail;
+  head = tree.head;
+  passable = tree.passable;
+  apart = tree.apart;
+  marks = tree.marks;
+  number = tree.number;
 }
+
+-- the arcs of one place more that lead ahead were looked at
+pub next_ahead : (a : Arcs) (s t : Reached) (v from to : ℕ) → IsGrown s t → IsSearching a t → s.ahead < reached_count s → v ≡ node_at s s.ahead → from ≡ first_of a v → to ≡ returns_from a v →
+    AreLookedAt a t from to → IsSearching a (with_ahead (t.ahead + 1) t)
+next_ahead a s t v from to more searching left at begins ends looked =
+    let same : node_at t t.ahead ≡ v = ap (node_at t) more.ahead ∙ more.node s.ahead left ∙ sym at in
+    let row : AreLookedAt a t (first_of a v) (returns_from a v) = λ e least below. looked e (omega (arith, begins, least)) (subst (λ (k : ℕ). e < k) (sym ends) below) in
+    let here = subst (λ (u : ℕ). AreLookedAt a t (first_of a u) (returns_from a u)) (sym same) row in
+    record {
+      room = record { seen = searching.room.seen; places = searching.room.places };
+      tree = same_tree a t (t.ahead + 1) t.behind searching.tree;
+      inside = omega (arith, more.ahead, more.count);
+      order = omega (arith, searching.order);
+      ahead = placewise t.ahead (t.ahead + 1) (λ i. AreLookedAt a t (first_of a (node_at t i)) (returns_from a (node_at t i))) refl searching.ahead here;
+      behind = searching.behind;
+      closed = searching.closed;
+    }
+
+-- those that take units back were
+pub next_behind : (a : Arcs) (s t : Reached) (v from to : ℕ) → IsGrown s t → IsSearching a t → s.behind < s.ahead → s.ahead ≤ reached_count s → v ≡ node_at s s.behind → from ≡ returns_from a v → to ≡ first_of a (v + 1) →
+    AreLookedAt a t from to → IsSearching a (with_behind (t.behind + 1) t)
+next_behind a s t v from to more searching left inside at begins ends looked =
+    let same : node_at t t.behind ≡ v = ap (node_at t) more.behind ∙ more.node s.behind (omega arith) ∙ sym at in
+    let row : AreLookedAt a t (returns_from a v) (first_of a (v + 1)) = λ e least below. looked e (subst (λ (k : ℕ). k ≤ e) (sym begins) least) (omega (arith, ends, below)) in
+    let here = subst (λ (u : ℕ). AreLookedAt a t (returns_from a u) (first_of a (u + 1))) (sym same) row in
+    record {
+      room = record { seen = searching.room.seen; places = searching.room.places };
+      tree = same_tree a t t.ahead (t.behind + 1) searching.tree;
+      inside = searching.inside;
+      order = omega (arith, more.ahead, more.behind);
+      ahead = searching.ahead;
+      behind = placewise t.behind (t.behind + 1) (λ i. AreLookedAt a t (returns_from a (node_at t i)) (first_of a (node_at t i + 1))) refl searching.behind here;
+      closed = searching.closed;
+    }
+
+-- all arcs of a node are its row's, up to where those that take units back begin and from there on
+all_of_row : (a : Arcs) (s : Reached) (v e : ℕ) → AreArcs a → e < arc_count a → tail_of a e ≡ v → AreLookedAt a s (first_of a v) (returns_from a v) → AreLookedAt a s (returns_from a v) (first_of a (v + 1)) → IsLookedAt a s e
+all_of_row a s v e are within from ahead behind =
+    let P : ℕ → Type 0 = λ k. (first_of a k ≤ e) × (e < first_of a (k + 1)) in
+    let here : P v = subst P from (are.from_first e within, are.before_next e within) in
+    elim (cases_lt e (returns_from a v)) [
+      | inl less ↦ ahead e here.0 less
+      | inr more ↦ behind e more here.1
+    ]
+
+-- once no arc is left, nothing can be moved out of the nodes reached
+pub saturated : (a : Arcs) (s : Reached) → AreArcs a → IsSearching a s → reached_count s ≤ s.behind → IsSaturated a.accounts (between a) (is_seen s)
+saturated a s are searching done = record {
+  source = ap (is_seen s) (sym searching.tree.source) ∙ searching.tree.marks.marked 0 searching.tree.has_source;
+  stops = not_seen (is_seen s (supersink a.accounts)) (λ was. let i = searching.tree.marks.only (supersink a.accounts) was in absurd (omega (arith, searching.tree.below i.0 i.1, i.2)));
+  closed = λ u v was some.
+      let i = searching.tree.marks.only u was in
+      let e = arc-between a u v some in
+      ap (is_seen s) (sym e.3) ∙ all_of_row a s (node_at s i.0) e.0 are e.1 (e.2 ∙ sym i.2) (searching.ahead i.0 (omega (arith, i.1, searching.order))) (searching.behind i.0 (omega (arith, i.1))) e.4;
+}
+
+none_marked : (seen : List Bool) → ((v : ℕ) → get_or seen v false ≡ false) → count_by (λ b. b) seen ≡ 0
+none_marked [] none = refl
+none_marked (b ∷ seen) none =
+    let weight : Bool → ℕ = λ c. cond c 1 0 in
+    omega (arith, sum_by-cons weight b seen, ap weight (none 0), none_marked seen (λ v. none (suc v)))
+
+-- a search begins with the mark of the source alone
+pub begins : (old new : Reached) (seen : List Bool) → 0 < length seen → length seen ≡ length old.seen → ((v : ℕ) → get_or seen v false ≡ false) →
+    new.places ≡ no_place ∷ [] → new.seen ≡ set seen 0 true → new.room ≡ old.room → new.ahead ≡ 0 → new.behind ≡ 0 → IsBegun old new
+begins old new seen some long none places marks room ahead behind =
+    let weight : Bool → ℕ = λ b. cond b 1 0 in
+    let more = sum_by-set weight seen 0 true false some in
+    record {
+      count = ap length places;
+      source = ap (λ (ps : List Place). (get_or ps 0 no_place).node) places;
+      marked = ap (λ (bs : List Bool). get_or bs 0 false) marks ∙ get_or-set_same seen 0 true false some;
+      only = λ v was.
+          elim (cases_eq v 0) [
+            | inl same ↦ same
+            | inr other ↦ not_both (is_seen new v) was (ap (λ (bs : List Bool). get_or bs v false) marks ∙ get_or-set_other seen 0 v true false other ∙ none v)
+          ];
+      number = ap (count_by (λ b. b)) marks ∙ omega (arith, more, none_marked seen none, ap weight (none 0));
+      room = room;
+      long = ap length marks ∙ length-set seen 0 true ∙ long;
+      ahead = ahead;
+      behind = behind;
+    }
 
 pub tree_begins : (a : Arcs) (old new : Reached) → IsBegun old new → IsTree a new
 tree_begins a old new begun =
@@ -197,14 +343,38 @@ tree_begins a old new begun =
       head = λ i above lt. absurd (omega (arith, begun.count));
       passable = λ i above lt. absurd (omega (arith, begun.count));
       apart = λ i j before lt. absurd (omega (arith, begun.count));
-      marked = λ i lt. ap (is_seen new) (ap (node_at new) (first i lt) ∙ begun.source) ∙ begun.marked;
-      only = λ v was. (0, omega (arith, begun.count), begun.source ∙ sym (begun.only v was));
+      marks = record {
+        marked = λ i lt. ap (is_seen new) (ap (node_at new) (first i lt) ∙ begun.source) ∙ begun.marked;
+        only = λ v was. (0, omega (arith, begun.count), begun.source ∙ sym (begun.only v was));
+      };
       number = begun.number ∙ sym begun.count;
     }
 
-pub searching_begins : (a : Arcs) (old new : Reached) → IsBegun old new → HasRoom a.accounts old → IsSearching a new 0
-searching_begins a old new begun room = record {
-  room = record { seen = omega (arith, room.seen, begun.long); places = omega (arith, room.places, begun.long, begun.room) };
-  tree = tree_begins a old new begun;
-  done = λ i lt. absurd (omega arith);
-}
+-- a node that is no account's first half has no arc to the supersink, nor back
+pub no_end : (n : Network) → StandsFor n → (v : ℕ) → v < supersink n.arcs.accounts → ((a : ℕ) → v ≢ first_half (Account a)) → IsClosed n.arcs v
+no_end n stands v below other =
+    let g : Certificates = certificates n.graph in
+    let last : ℕ = supersink n.arcs.accounts in
+    let rests = stands.rests in
+    let there : Shape g.accounts v last → ⊥ = λ shape. elim shape [
+      | inl (k, le, e, f) ↦ absurd (omega arith)
+      | inr (inl (a, lt, e, f)) ↦ other a e
+      | inr (inr (k, b, le, lt, e, f)) ↦ absurd (omega (arith, stands.accounts))
+    ] in
+    let back : Shape g.accounts last v → ⊥ = subst (λ (m : ℕ). Shape g.accounts (supersink m) v → ⊥) (sym stands.accounts) (out_of_sink g.accounts v) in
+    omega (arith, rests.both v last, no_capacity g n.level rests.cap rests.capacity rests.split v last there, no_capacity g n.level rests.cap rests.capacity rests.split last v back)
+
+pub searching_begins : (n : Network) (old new : Reached) → StandsFor n → IsBegun old new → HasRoom n.arcs.accounts old → IsSearching n.arcs new
+searching_begins n old new stands begun room =
+    let first : (i : ℕ) → i < reached_count new → node_at new i ≡ 0 = λ i lt.
+    let zero : i ≡ 0 = omega (arith, begun.count) in
+    ap (node_at new) zero ∙ begun.source in
+    record {
+      room = record { seen = omega (arith, room.seen, begun.long); places = omega (arith, room.places, begun.long, begun.room) };
+      tree = tree_begins n.arcs old new begun;
+      inside = omega (arith, begun.ahead);
+      order = omega (arith, begun.behind);
+      ahead = λ i lt. absurd (omega (arith, begun.ahead));
+      behind = λ i lt. absurd (omega (arith, begun.behind));
+      closed = λ i lt. ap (λ (v : ℕ). between n.arcs v (supersink n.arcs.accounts)) (first i lt) ∙ no_end n stands 0 (omega arith) (λ a same. absurd (omega arith));
+    }

@@ -1,26 +1,31 @@
 -- How a workspace is held. The contracts of the crate's own functions speak of it; those of its public ones need none of it.
 use Rattle.std.specs.Prelude.{ℕ, ◌≡◌, ◌<◌, ◌-◌, ◌==◌, if◌then◌else◌, List, length, slice_index}
-use Rattle.trust_types.specs.declared.levels.Level.{Level}
 use Rattle.trust_types.specs.declared.accounts.Node.{Node}
 use Rattle.trust_types.specs.declared.accounts.Node.TheVariants.{Root, Account}
 use Rattle.trust_types.specs.Graph.{HasEdge}
 use Rattle.trust_types.specs.Capacity.{AreCapacities}
-use Rattle.frozen.specs.Revision.{Revision, certificates}
+use Rattle.frozen.specs.Revision.{certificates}
 use Rattle.split_graph.specs.Split.{first_half, second_half, unbounded, Rests, IsSplitGraph}
 use Rattle.split_graph.specs.Moved.{IsMoved}
 use Rattle.split_graph.specs.Arcs.{between}
 use Rattle.split_graph.specs.Network.{Network, Fits, StandsFor}
+use Rattle.flow_engine.specs.Solved.{Solved, IsSolved, flow_in, sides_in}
 use Rattle.flow_engine.specs.Tree.{Reached, HasRoom}
 
 -- The units on an arc without a bound, by what rests on it. Where nothing does, nothing could.
 abbrev pub units_by : ℕ → ℕ
 units_by rest = if rest == 0 then 0 else unbounded - rest
 
--- What may be moved through the split graph of a site at a level before any unit was.
-pub record IsLoaded (f : Revision) (level : Level) (r : Rests) : Type 0 where
+-- A level of a site was loaded, and no unit was moved yet.
+pub record IsLoaded (n : Network) : Type 0 where
+  pub stands : StandsFor n
   pub cap : Node → ℕ
-  pub capacities : AreCapacities (certificates f) level f.caps cap
-  pub split : IsSplitGraph (certificates f) level cap r
+  pub capacities : AreCapacities (certificates n.graph) n.level n.graph.caps cap
+  pub split : IsSplitGraph (certificates n.graph) n.level cap (between n.arcs)
+
+-- What was loaded is solved.
+abbrev pub IsSolvedIn : Solved → Type 0
+IsSolvedIn s = IsSolved (certificates s.network.graph) s.network.level s.network.graph.caps (flow_in s) (sides_in s)
 
 -- The arrays have room for so many accounts.
 pub record IsReserved (accounts : ℕ) (reached : Reached) (queue : ℕ) (caps_of root_units : List ℕ) : Type 0 where

@@ -1,15 +1,18 @@
 -- A search through a residual graph: the split nodes that it reached, in order. The contracts of the crate's own functions speak of
 -- it; those of its public ones need none of it.
-use Rattle.std.specs.Prelude.{ℕ, Bool, true, false, ◌≡◌, ◌≢◌, ◌<◌, ◌≤◌, List, [], ◌∷◌, ◌++◌, length, slice_index_or, slice_set, count_by}
+use Rattle.std.specs.Prelude.{ℕ, Bool, true, false, ◌≡◌, ◌≢◌, ◌<◌, ◌≤◌, ◌+◌, ◌%◌, ◌==◌, min, if◌then◌else◌, List, [], ◌∷◌, ◌++◌, length, slice_index_or, slice_set, count_by}
 use Rattle.split_graph.specs.Split.{supersink, node_count}
-use Rattle.split_graph.specs.Arcs.{Arcs, arc_count, head_of, tail_of, rest_of}
+use Rattle.split_graph.specs.Arcs.{Arcs, arc_count, first_of, head_of, tail_of, rest_of, between}
 use Rattle.flow_engine.specs.declared.searches.Place.{Place}
 
--- The nodes reached, with the arc by which each was, for each split node whether it was, and for how many nodes there is room.
+-- The nodes reached, with the arc by which each was, for each split node whether it was, and for how many nodes there is room; and
+-- from which place on their arcs are still to be looked at, first those that lead ahead and then those that take units back.
 pub record Reached : Type 0 where
   pub places : List Place
   pub seen : List Bool
   pub room : ℕ
+  pub ahead : ℕ
+  pub behind : ℕ
 
 abbrev pub no_place : Place
 no_place = record { node = 0; via = 0; back = 0 }
@@ -36,6 +39,11 @@ pub record HasRoom (n : ℕ) (s : Reached) : Type 0 where
   pub seen : node_count n ≤ length s.seen
   pub places : length s.seen ≤ s.room
 
+-- A node is marked as seen where it stands at a place, and no other is.
+pub record AreMarked (places : List Place) (seen : List Bool) : Type 0 where
+  pub marked : (i : ℕ) → i < length places → slice_index_or seen (slice_index_or places i no_place).node false ≡ true
+  pub only : (v : ℕ) → slice_index_or seen v false ≡ true → (i : ℕ) × (i < length places) × ((slice_index_or places i no_place).node ≡ v)
+
 -- Each node reached but the source stands after the tail of the arc into it.
 pub record IsTree (a : Arcs) (s : Reached) : Type 0 where
   pub has_source : 0 < reached_count s
@@ -47,21 +55,29 @@ pub record IsTree (a : Arcs) (s : Reached) : Type 0 where
   pub head : (i : ℕ) → 0 < i → i < reached_count s → head_of a (via_at s i) ≡ node_at s i
   pub passable : (i : ℕ) → 0 < i → i < reached_count s → 0 < rest_of a (via_at s i)
   pub apart : (i j : ℕ) → i < j → j < reached_count s → node_at s i ≢ node_at s j
-  pub marked : (i : ℕ) → i < reached_count s → is_seen s (node_at s i) ≡ true
-  pub only : (v : ℕ) → is_seen s v ≡ true → (i : ℕ) × (i < reached_count s) × (node_at s i ≡ v)
+  pub marks : AreMarked s.places s.seen
   pub number : count_by (λ b. b) s.seen ≡ reached_count s
 
--- If anything can be moved along the arc, it leads to a node that was reached, and not to the supersink.
+-- Nothing can be moved from the node to the supersink.
+abbrev pub IsClosed : Arcs → ℕ → Type 0
+IsClosed a v = between a v (supersink a.accounts) ≡ 0
+
+-- The same of the nodes at all places before one.
+abbrev pub AreClosed : Arcs → Reached → ℕ → Type 0
+AreClosed a s at = (i : ℕ) → i < at → IsClosed a (node_at s i)
+
+-- If anything can be moved along the arc, it leads to a node that was reached.
 abbrev pub IsLookedAt : Arcs → Reached → ℕ → Type 0
-IsLookedAt a s e = 0 < rest_of a e → (head_of a e ≢ supersink a.accounts) × (is_seen s (head_of a e) ≡ true)
+IsLookedAt a s e = 0 < rest_of a e → is_seen s (head_of a e) ≡ true
 
--- All that can be reached from the node at a place was reached, and the supersink cannot.
-abbrev pub IsDone : Arcs → Reached → ℕ → Type 0
-IsDone a s i = (e : ℕ) → e < arc_count a → tail_of a e ≡ node_at s i → IsLookedAt a s e
+-- The same of the arcs from one to before another.
+abbrev pub AreLookedAt : Arcs → Reached → ℕ → ℕ → Type 0
+AreLookedAt a s from to = (e : ℕ) → from ≤ e → e < to → IsLookedAt a s e
 
--- The same of all places before one.
-abbrev pub AreDone : Arcs → Reached → ℕ → Type 0
-AreDone a s at = (i : ℕ) → i < at → IsDone a s i
+-- Where the arcs of a node begin that are left for last: those of a first half behind the two that lead ahead, through the node and
+-- to the supersink. They take units back, and may be many.
+abbrev pub returns_from : Arcs → ℕ → ℕ
+returns_from a v = if v % 2 == 0 then min (first_of a v + 2) (first_of a (v + 1)) else first_of a (v + 1)
 
 -- One node more, by an arc from the node at a place.
 abbrev pub reach : ℕ → ℕ → ℕ → Reached → Reached
@@ -69,13 +85,19 @@ reach node arc at s = record {
   places = s.places ++ record { node = node; via = arc; back = at } ∷ [];
   seen = slice_set s.seen node true;
   room = s.room;
+  ahead = s.ahead;
+  behind = s.behind;
 }
 
--- A search that is about to look at the node at a place.
-pub record IsSearching (a : Arcs) (s : Reached) (at : ℕ) : Type 0 where
+-- A search that goes on: no way ends at a node that it reached.
+pub record IsSearching (a : Arcs) (s : Reached) : Type 0 where
   pub room : HasRoom a.accounts s
   pub tree : IsTree a s
-  pub done : AreDone a s at
+  pub inside : s.ahead ≤ reached_count s
+  pub order : s.behind ≤ s.ahead
+  pub ahead : (i : ℕ) → i < s.ahead → AreLookedAt a s (first_of a (node_at s i)) (returns_from a (node_at s i))
+  pub behind : (i : ℕ) → i < s.behind → AreLookedAt a s (returns_from a (node_at s i)) (first_of a (node_at s i + 1))
+  pub closed : AreClosed a s (reached_count s)
 
 -- What was reached stays, in its place.
 pub record IsGrown (old new : Reached) : Type 0 where
@@ -84,19 +106,30 @@ pub record IsGrown (old new : Reached) : Type 0 where
   pub seen : (v : ℕ) → is_seen old v ≡ true → is_seen new v ≡ true
   pub room : new.room ≡ old.room
   pub long : length new.seen ≡ length old.seen
+  pub ahead : new.ahead ≡ old.ahead
+  pub behind : new.behind ≡ old.behind
 
--- An arc along which a unit can go from the node at a place to the supersink.
-pub record EndsWay (a : Arcs) (s : Reached) (at e : ℕ) : Type 0 where
+-- An arc along which a unit can go from the node at a place to a node that was not reached.
+pub record LeadsOn (a : Arcs) (s : Reached) (at e : ℕ) : Type 0 where
+  pub placed : at < reached_count s
   pub within : e < arc_count a
   pub tail : tail_of a e ≡ node_at s at
+  pub passable : 0 < rest_of a e
+  pub fresh : is_seen s (head_of a e) ≡ false
+
+-- An arc along which a unit can go from the node to the supersink.
+pub record EndsWay (a : Arcs) (v e : ℕ) : Type 0 where
+  pub within : e < arc_count a
+  pub tail : tail_of a e ≡ v
   pub head : head_of a e ≡ supersink a.accounts
   pub passable : 0 < rest_of a e
 
--- A way from the source to the supersink, whose last arc leaves the node at a place.
+-- A way from the source to the supersink, whose last arc leaves the node at a place. At none of the nodes before could it end.
 pub record IsWay (a : Arcs) (s : Reached) (at e : ℕ) : Type 0 where
+  pub tree : IsTree a s
   pub placed : at < reached_count s
-  pub done : AreDone a s at
-  pub ends : EndsWay a s at e
+  pub closed : AreClosed a s at
+  pub ends : EndsWay a (node_at s at) e
 
 -- Only the source was reached.
 pub record IsBegun (old new : Reached) : Type 0 where
@@ -107,3 +140,5 @@ pub record IsBegun (old new : Reached) : Type 0 where
   pub number : count_by (λ b. b) new.seen ≡ 1
   pub room : new.room ≡ old.room
   pub long : length new.seen ≡ length old.seen
+  pub ahead : new.ahead ≡ 0
+  pub behind : new.behind ≡ 0

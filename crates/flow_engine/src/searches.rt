@@ -3,11 +3,11 @@
 ghost use Rattle.std.specs.Prelude.{ℕ, ◌≡◌, ◌<◌, ◌≤◌, ◌+◌, IfSome, IfNone, IfOk, length, vec_capacity, true, false, slice_index_or};
 ghost use Rattle.split_graph.specs.Split.{supersink};
 ghost use Rattle.split_graph.specs.Moved.{IsMoved, IsMidway, IsSaturated, PassesServed};
-ghost use Rattle.split_graph.specs.Arcs.{AreArcs, arc_count, tail_of, between};
+ghost use Rattle.split_graph.specs.Arcs.{AreArcs, arc_count, first_of, tail_of, between};
 ghost use Rattle.split_graph.specs.Network.{IsSameNetwork, StandsFor};
-ghost use Rattle.flow_engine.specs.Tree.{HasRoom, IsTree, IsLookedAt, IsDone, AreDone, IsSearching, IsGrown, EndsWay, IsWay, IsBegun, node_at, via_at, back_at, is_seen, reached_count, reach};
+ghost use Rattle.flow_engine.specs.Tree.{HasRoom, AreMarked, IsLookedAt, AreLookedAt, returns_from, IsSearching, IsGrown, IsClosed, LeadsOn, EndsWay, IsWay, IsBegun, node_at, via_at, back_at, is_seen, reached_count, reach};
 
-use split_graph::Residual;
+use split_graph::{Residual, entered_account};
 use std::alloc::{AllocError, Global};
 use std::marker::Model;
 use std::sync::ledger::Ledger;
@@ -33,15 +33,59 @@ pub struct Way {
 pub struct Search {
     places: Vec<Place>,
     seen: Vec<bool>,
+    /// Of the places before this one, the arcs that lead ahead were looked at.
+    ahead: usize,
+    /// Of the places before this one, those that take units back were too.
+    behind: usize,
 }
 
 impl Model for Search {
     ghost use Rattle.std.specs.Prelude.{vec_capacity};
-    ghost use Rattle.flow_engine.specs.Tree.{Reached};
+    ghost use Rattle.flow_engine.specs.Tree.{Reached, AreMarked};
 
     ghost Value = { Reached };
 
-    ghost view = { λ s. record { places = s.places.items; seen = s.seen.items; room = vec_capacity s.places } };
+    ghost view = { λ s. record { places = s.places.items; seen = s.seen.items; room = vec_capacity s.places; ahead = s.ahead; behind = s.behind } };
+
+    ghost invariant = { λ s. AreMarked s.places.items s.seen.items };
+}
+
+/// Takes the marks off the nodes at these places, which are all that have one.
+fn clear_marks(places: &[Place], seen: &mut [bool])
+    requires { AreMarked places.now seen.old }
+    ensures { (v : ℕ) → slice_index_or seen.new v false ≡ false }
+{
+    for place in places {
+        seen[place.node as usize] = false;
+    }
+}
+
+/// The arc from a node to the supersink, if a unit can be moved along it: the node is the first half of an unserved account.
+fn ending<L: Ledger>(residual: &Residual, node: u32, steps: &mut Steps<L>) -> Option<u32>
+    requires stands { StandsFor residual.now }
+    requires node { node < supersink residual.now.arcs.accounts }
+    ensures ends { IfSome result (λ arc. EndsWay residual.now.arcs node arc) }
+    ensures closed { IfNone result (IsClosed residual.now.arcs node) }
+{
+    let account = entered_account(node)?;
+    let arc = residual.end_arc(account);
+    steps.tick();
+    (residual.rest(arc) > 0).then_some(arc)
+}
+
+/// Where the arcs of a node begin that are left for last: those of a first half behind the two that lead ahead, through the node and
+/// to the supersink. They take units back, and may be many.
+fn returns_from(residual: &Residual, node: u32) -> u32
+    requires stands { StandsFor residual.now }
+    requires node { node < supersink residual.now.arcs.accounts }
+    ensures { result ≡ returns_from residual.now.arcs node }
+{
+    let next = residual.first(node + 1);
+    if node % 2 == 0 {
+        (residual.first(node) + 2).min(next)
+    } else {
+        next
+    }
 }
 
 impl Search {
@@ -53,6 +97,8 @@ impl Search {
         Ok(Search {
             places: Vec::with_capacity(alloc, nodes)?,
             seen: vec![in alloc; false; nodes]?,
+            ahead: 0,
+            behind: 0,
         })
     }
 
@@ -101,7 +147,7 @@ impl Search {
         requires room { 0 < self.old.room }
         ensures { IsBegun self.old self.new }
     {
-        self.seen.fill(false);
+        clear_marks(&self.places, &mut self.seen);
         self.seen[0] = true;
         self.places.clear();
         self.places.push_reserved(Place {
@@ -109,6 +155,8 @@ impl Search {
             via: 0,
             back: 0,
         });
+        self.ahead = 0;
+        self.behind = 0;
     }
 
     /// Adds a node that was not reached before, by an arc from the node at a place.
@@ -121,88 +169,151 @@ impl Search {
         self.places.push_reserved(Place { node, via, back });
     }
 
-    /// Looks at an arc from the node at a place. The answer is true where a unit can be moved along it to the supersink.
-    fn look<L: Ledger>(
+    /// Reaches the node to which an arc leads on, and answers the way that ends there, if one does.
+    fn enter<L: Ledger>(
         &mut self,
         residual: &Residual,
-        last: u32,
         at: usize,
         arc: u32,
         steps: &mut Steps<L>,
-    ) -> bool
-        requires arcs { AreArcs residual.now.arcs }
-        requires last { last ≡ supersink residual.now.arcs.accounts }
-        requires searching { IsSearching residual.now.arcs self.old at }
+    ) -> Option<Way>
+        requires stands { StandsFor residual.now }
+        requires searching { IsSearching residual.now.arcs self.old }
+        requires leads { LeadsOn residual.now.arcs self.old at arc }
+        ensures grown { IsGrown self.old self.new }
+        ensures way { IfSome result (λ way. IsWay residual.now.arcs self.new way.at way.arc) }
+        ensures searching { IfNone result (IsSearching residual.now.arcs self.new) }
+        ensures looked { IfNone result (IsLookedAt residual.now.arcs self.new arc) }
+    {
+        let place = self.count();
+        let head = residual.head(arc);
+        self.reach(head, arc, at);
+        let end = ending(residual, head, steps)?;
+        Some(Way {
+            at: place,
+            arc: end,
+        })
+    }
+
+    /// Looks at an arc from the node at a place: where it leads on, its head is reached. The answer is a way that ends there.
+    fn look<L: Ledger>(
+        &mut self,
+        residual: &Residual,
+        at: usize,
+        arc: u32,
+        steps: &mut Steps<L>,
+    ) -> Option<Way>
+        requires stands { StandsFor residual.now }
+        requires searching { IsSearching residual.now.arcs self.old }
         requires placed { at < reached_count self.old }
         requires within { arc < arc_count residual.now.arcs }
         requires tail { tail_of residual.now.arcs arc ≡ node_at self.old at }
-        ensures searching { IsSearching residual.now.arcs self.new at }
         ensures grown { IsGrown self.old self.new }
-        ensures ends { result ≡ true → EndsWay residual.now.arcs self.new at arc }
-        ensures goes_on { result ≡ false → IsLookedAt residual.now.arcs self.new arc }
+        ensures way { IfSome result (λ way. IsWay residual.now.arcs self.new way.at way.arc) }
+        ensures searching { IfNone result (IsSearching residual.now.arcs self.new) }
+        ensures looked { IfNone result (IsLookedAt residual.now.arcs self.new arc) }
     {
         steps.tick();
         if residual.rest(arc) == 0 {
-            return false;
+            return None;
         }
-        let head = residual.head(arc);
-        if head == last {
-            return true;
+        if self.has(residual.head(arc)) {
+            return None;
         }
-        if !self.has(head) {
-            self.reach(head, arc, at);
-        }
-        false
+        self.enter(residual, at, arc, steps)
     }
 
-    /// Reaches all that can be reached from the node at a place, until an arc to the supersink is found, which is then the answer.
+    /// Looks at the arcs of the node at a place from one to before another, until a way ends at a node reached, which is then the answer.
     fn expand<L: Ledger>(
         &mut self,
         residual: &Residual,
-        last: u32,
         at: usize,
+        from: u32,
+        to: u32,
         steps: &mut Steps<L>,
-    ) -> Option<u32>
-        requires last { last ≡ supersink residual.now.arcs.accounts }
-        requires searching { IsSearching residual.now.arcs self.old at }
+    ) -> Option<Way>
+        requires stands { StandsFor residual.now }
+        requires searching { IsSearching residual.now.arcs self.old }
         requires placed { at < reached_count self.old }
-        ensures searching { IsSearching residual.now.arcs self.new at }
+        requires row { (e : ℕ) → from ≤ e → e < to → (first_of residual.now.arcs (node_at self.old at) ≤ e) × (e < first_of residual.now.arcs (node_at self.old at + 1)) }
         ensures grown { IsGrown self.old self.new }
-        ensures ends { IfSome result (λ arc. EndsWay residual.now.arcs self.new at arc) }
-        ensures goes_on { IfNone result (IsDone residual.now.arcs self.new at) }
+        ensures way { IfSome result (λ way. IsWay residual.now.arcs self.new way.at way.arc) }
+        ensures searching { IfNone result (IsSearching residual.now.arcs self.new) }
+        ensures looked { IfNone result (AreLookedAt residual.now.arcs self.new from to) }
     {
-        let node = self.node(at);
-        for arc in residual.first(node)..residual.first(node + 1) {
-            if self.look(residual, last, at, arc, steps) {
-                return Some(arc);
+        for arc in from..to {
+            if let Some(way) = self.look(residual, at, arc, steps) {
+                return Some(way);
             }
         }
         None
     }
 
-    /// Searches for a way to the supersink. Where there is none, all that can be reached was reached.
-    pub fn search<L: Ledger>(
-        &mut self,
-        residual: &Residual,
-        last: u32,
-        steps: &mut Steps<L>,
-    ) -> Option<Way>
-        requires last { last ≡ supersink residual.now.arcs.accounts }
-        requires room { HasRoom residual.now.arcs.accounts self.old }
-        ensures room { HasRoom residual.now.arcs.accounts self.new }
+    /// Looks at the arcs that lead ahead from the next place.
+    fn look_ahead<L: Ledger>(&mut self, residual: &Residual, steps: &mut Steps<L>) -> Option<Way>
+        requires stands { StandsFor residual.now }
+        requires searching { IsSearching residual.now.arcs self.old }
+        requires left { self.old.ahead < reached_count self.old }
+        ensures way { IfSome result (λ way. IsWay residual.now.arcs self.new way.at way.arc) }
+        ensures searching { IfNone result (IsSearching residual.now.arcs self.new) }
+        ensures next { IfNone result (self.new.ahead ≡ self.old.ahead + 1) }
+        ensures same { self.new.behind ≡ self.old.behind }
         ensures long { length self.new.seen ≡ length self.old.seen }
         ensures places { self.new.room ≡ self.old.room }
-        ensures tree { IsTree residual.now.arcs self.new }
+    {
+        let at = self.ahead;
+        let node = self.node(at);
+        let from = residual.first(node);
+        let to = returns_from(residual, node);
+        if let Some(way) = self.expand(residual, at, from, to, steps) {
+            return Some(way);
+        }
+        self.ahead += 1;
+        None
+    }
+
+    /// Looks at the arcs that take units back from the next place.
+    fn look_behind<L: Ledger>(&mut self, residual: &Residual, steps: &mut Steps<L>) -> Option<Way>
+        requires stands { StandsFor residual.now }
+        requires searching { IsSearching residual.now.arcs self.old }
+        requires left { self.old.behind < self.old.ahead }
         ensures way { IfSome result (λ way. IsWay residual.now.arcs self.new way.at way.arc) }
-        ensures none { IfNone result (AreDone residual.now.arcs self.new (reached_count self.new)) }
+        ensures searching { IfNone result (IsSearching residual.now.arcs self.new) }
+        ensures next { IfNone result (self.new.behind ≡ self.old.behind + 1) }
+        ensures same { self.new.ahead ≡ self.old.ahead }
+        ensures long { length self.new.seen ≡ length self.old.seen }
+        ensures places { self.new.room ≡ self.old.room }
+    {
+        let at = self.behind;
+        let node = self.node(at);
+        let from = returns_from(residual, node);
+        let to = residual.first(node + 1);
+        if let Some(way) = self.expand(residual, at, from, to, steps) {
+            return Some(way);
+        }
+        self.behind += 1;
+        None
+    }
+
+    /// Searches for a way to the supersink, from the first unserved account that it reaches. Arcs that take units back are looked at
+    /// only where no others are left. Where there is no way, all that can be reached was reached.
+    pub fn search<L: Ledger>(&mut self, residual: &Residual, steps: &mut Steps<L>) -> Option<Way>
+        requires stands { StandsFor residual.now }
+        requires room { HasRoom residual.now.arcs.accounts self.old }
+        ensures long { length self.new.seen ≡ length self.old.seen }
+        ensures places { self.new.room ≡ self.old.room }
+        ensures way { IfSome result (λ way. IsWay residual.now.arcs self.new way.at way.arc) }
+        ensures none { IfNone result (IsSaturated residual.now.arcs.accounts (between residual.now.arcs) (is_seen self.new)) }
     {
         self.begin();
-        let mut at = 0;
-        while at < self.count() {
-            if let Some(arc) = self.expand(residual, last, at, steps) {
-                return Some(Way { at, arc });
+        while self.behind < self.count() {
+            if self.ahead < self.count() {
+                if let Some(way) = self.look_ahead(residual, steps) {
+                    return Some(way);
+                }
+            } else if let Some(way) = self.look_behind(residual, steps) {
+                return Some(way);
             }
-            at += 1;
         }
         None
     }
@@ -210,9 +321,7 @@ impl Search {
     /// Moves one unit along the way that was found, its last arc first.
     pub fn send(&self, residual: &mut Residual, way: Way)
         requires arcs { AreArcs residual.old.arcs }
-        requires searching { IsSearching residual.old.arcs self.now way.at }
-        requires placed { way.at < reached_count self.now }
-        requires ends { EndsWay residual.old.arcs self.now way.at way.arc }
+        requires way { IsWay residual.old.arcs self.now way.at way.arc }
         requires served { PassesServed residual.old.arcs.accounts (between residual.old.arcs) }
         ensures same { IsSameNetwork residual.old residual.new }
         ensures moved { IsMidway residual.old.arcs.accounts (between residual.old.arcs) (between residual.new.arcs) 0 }
@@ -228,9 +337,8 @@ impl Search {
     }
 
     /// Sends units to the supersink, one at a time, until none can be sent. Then nothing can be moved out of the nodes reached last.
-    pub fn send_all<L: Ledger>(&mut self, residual: &mut Residual, last: u32, steps: &mut Steps<L>)
+    pub fn send_all<L: Ledger>(&mut self, residual: &mut Residual, steps: &mut Steps<L>)
         requires stands { StandsFor residual.old }
-        requires last { last ≡ supersink residual.old.arcs.accounts }
         requires room { HasRoom residual.old.arcs.accounts self.old }
         requires served { PassesServed residual.old.arcs.accounts (between residual.old.arcs) }
         ensures long { length self.new.seen ≡ length self.old.seen }
@@ -241,7 +349,7 @@ impl Search {
         ensures saturated { IsSaturated residual.old.arcs.accounts (between residual.new.arcs) (is_seen self.new) }
         ensures stands { StandsFor residual.new }
     {
-        while let Some(way) = self.search(residual, last, steps) {
+        while let Some(way) = self.search(residual, steps) {
             self.send(residual, way);
         }
     }

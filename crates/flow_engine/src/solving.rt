@@ -7,16 +7,16 @@ ghost use Rattle.trust_types.specs.Flow.{is_served};
 ghost use Rattle.trust_types.specs.Layout.{degree, taker};
 ghost use Rattle.frozen.specs.Revision.{certificates};
 ghost use Rattle.split_graph.specs.Split.{IsNode};
-ghost use Rattle.split_graph.specs.Arcs.{between};
-ghost use Rattle.split_graph.specs.Network.{Fits, StandsFor};
+ghost use Rattle.split_graph.specs.Network.{Fits};
 ghost use Rattle.flow_engine.specs.Solved.{IsSolved, flow_in, sides_in};
-ghost use Rattle.flow_engine.specs.Held.{IsLoaded};
+ghost use Rattle.flow_engine.specs.Held.{IsLoaded, IsReadable, IsSolvedIn};
+ghost use Rattle.flow_engine.specs.Tree.{HasRoom};
 
 use crate::reading::{read_root_units, units_along};
 use crate::searches::Search;
 use distances::{Queue, capacities};
 use frozen::Frozen;
-use split_graph::{Residual, first_half, second_half, supersink};
+use split_graph::{Residual, first_half, second_half};
 use std::alloc::Global;
 use std::marker::Model;
 use std::sync::ledger::Ledger;
@@ -37,13 +37,60 @@ fn load(
     ensures room { residual.new.room ≡ residual.old.room }
     ensures graph { residual.new.graph ≡ frozen.now }
     ensures level { residual.new.level ≡ level }
-    ensures loaded { IsLoaded frozen.now level (between residual.new.arcs) }
-    ensures stands { StandsFor residual.new }
+    ensures loaded { IsLoaded residual.new }
     ensures queue { queue.new ≡ queue.old }
 {
     let capacities_of = &mut places[..frozen.accounts() as usize];
     capacities(frozen, level, frozen.caps(), capacities_of, queue);
     residual.load(frozen, level, capacities_of);
+}
+
+/// Loads another level of the site that is loaded.
+fn reload(
+    frozen: &Frozen,
+    level: Level,
+    places: &mut [u32],
+    queue: &mut Queue,
+    residual: &mut Residual,
+)
+    requires grade { IsGrade level }
+    requires graph { residual.old.graph ≡ frozen.now }
+    requires places { (certificates frozen.now).accounts ≤ length places.old }
+    requires queue { (certificates frozen.now).accounts ≤ queue.old }
+    ensures room { residual.new.room ≡ residual.old.room }
+    ensures graph { residual.new.graph ≡ frozen.now }
+    ensures level { residual.new.level ≡ level }
+    ensures loaded { IsLoaded residual.new }
+    ensures queue { queue.new ≡ queue.old }
+{
+    let capacities_of = &mut places[..frozen.accounts() as usize];
+    capacities(frozen, level, frozen.caps(), capacities_of, queue);
+    residual.reload(frozen, level, capacities_of);
+}
+
+/// Finds a greatest flow through what was loaded and a cut of equal value, and writes the units from the root.
+fn solve_loaded<L: Ledger>(
+    frozen: &Frozen,
+    residual: &mut Residual,
+    search: &mut Search,
+    root_units: &mut [u32],
+    steps: &mut Steps<L>,
+)
+    requires graph { residual.old.graph ≡ frozen.now }
+    requires fits { Fits frozen.now residual.old.room }
+    requires loaded { IsLoaded residual.old }
+    requires search { HasRoom residual.old.arcs.accounts search.old }
+    requires units { (certificates frozen.now).accounts ≤ length root_units.old }
+    ensures room { residual.new.room ≡ residual.old.room }
+    ensures graph { residual.new.graph ≡ frozen.now }
+    ensures level { residual.new.level ≡ residual.old.level }
+    ensures long { length search.new.seen ≡ length search.old.seen }
+    ensures places { search.new.room ≡ search.old.room }
+    ensures readable { IsReadable residual.new root_units.new }
+    ensures solved { IsSolvedIn (record { network = residual.new; reached = search.new.seen }) }
+{
+    search.send_all(residual, steps);
+    read_root_units(residual, frozen, frozen.accounts(), root_units);
 }
 
 /// The memory of the engine. Contracts see the room that was reserved, the graph and the level that were solved, and the flow and
@@ -97,7 +144,6 @@ impl Workspace {
         ensures level { self.new.network.level ≡ level }
         ensures solved { IsSolved (certificates frozen.now) level frozen.now.caps (flow_in self.new) (sides_in self.new) }
     {
-        let accounts = frozen.accounts();
         load(
             frozen,
             level,
@@ -105,9 +151,41 @@ impl Workspace {
             &mut self.queue,
             &mut self.residual,
         );
-        self.search
-            .send_all(&mut self.residual, supersink(accounts), steps);
-        read_root_units(&self.residual, frozen, accounts, &mut self.root_units);
+        solve_loaded(
+            frozen,
+            &mut self.residual,
+            &mut self.search,
+            &mut self.root_units,
+            steps,
+        );
+    }
+
+    /// Finds the same at another level of the graph that was solved last, whose arcs need no second laying out: a small part of
+    /// what `solve` takes is left, and the searches.
+    ///
+    /// It takes no memory. `steps` counts the arcs that it looks at.
+    pub fn solve_again<L: Ledger>(&mut self, frozen: &Frozen, level: Level, steps: &mut Steps<L>)
+        requires grade { IsGrade level }
+        requires graph { self.old.network.graph ≡ frozen.now }
+        ensures room { self.new.network.room ≡ self.old.network.room }
+        ensures graph { self.new.network.graph ≡ frozen.now }
+        ensures level { self.new.network.level ≡ level }
+        ensures solved { IsSolved (certificates frozen.now) level frozen.now.caps (flow_in self.new) (sides_in self.new) }
+    {
+        reload(
+            frozen,
+            level,
+            &mut self.capacities,
+            &mut self.queue,
+            &mut self.residual,
+        );
+        solve_loaded(
+            frozen,
+            &mut self.residual,
+            &mut self.search,
+            &mut self.root_units,
+            steps,
+        );
     }
 
     /// Whether the flow serves an account.
@@ -115,8 +193,7 @@ impl Workspace {
         requires { account < (certificates self.now.network.graph).accounts }
         ensures { result ≡ is_served (certificates self.now.network.graph).accounts (flow_in self.now) account }
     {
-        let through = self.residual.first(first_half(&Node::Account(account)));
-        self.residual.rest(through + 1) == 0
+        self.residual.rest(self.residual.end_arc(account)) == 0
     }
 
     /// The units that the flow sends along the i-th certificate that an account gives, counted from 0.

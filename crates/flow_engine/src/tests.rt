@@ -96,6 +96,7 @@ fn site(alloc: Global, shape: Shape, caps: &[u32]) -> Result<Arc<Frozen>, Fail>
     Ok(Frozen::of(alloc, 1, caps, names, seeds, certs)?)
 }
 
+/// Solves a site at the lowest level and then again at the highest.
 fn solve_at_master<L: Ledger>(workspace: &mut Workspace, frozen: &Frozen, blank: Blank)
     requires name { blank.name ≡ L.name }
     requires parts { blank.parts ≡ L.parts }
@@ -105,7 +106,8 @@ fn solve_at_master<L: Ledger>(workspace: &mut Workspace, frozen: &Frozen, blank:
     ensures graph { workspace.new.network.graph ≡ frozen.now }
 {
     let mut steps = Steps::<L>::new(blank);
-    workspace.solve(frozen, Level::Master, &mut steps);
+    workspace.solve(frozen, Level::Apprentice, &mut steps);
+    workspace.solve_again(frozen, Level::Master, &mut steps);
 }
 
 /// Where one account is full, those before it pass and those behind it are outside.

@@ -1,6 +1,6 @@
 -- The lines of a flow, written one after another.
 use Rattle.std.proofs.Common.{ℕ, Bool, true, false, ◌+◌, ◌≡◌, ◌<◌, ◌≤◌, ◌==◌, ◌&&◌, ◌||◌, ◌⊎◌, List, [], ◌∷◌, ◌++◌, get_or, inl, inr, refl, sym, subst, ap, ◌∙◌, arith, nat_lt, cond}
-use Rattle.std.proofs.lemmas.Bool.{cases_lt, cases_Bool, cond-true, cond-false, lt-ltb, le-ltb}
+use Rattle.std.proofs.lemmas.Bool.{cases_lt, cases_Bool, cond-true, cond-false, lt-ltb, le-ltb, eqb-false}
 use Rattle.std.proofs.lemmas.Bool.Decides.{nat_tests}
 use Rattle.std.proofs.lemmas.List.Quantifiers.{all_pairs_push}
 use Rattle.std.proofs.lemmas.List.Elements.{All-nil, All-push, All-weaker}
@@ -8,10 +8,12 @@ use Rattle.std.proofs.lemmas.List.Sums.{sum_by_push}
 use Rattle.trust_types.specs.declared.accounts.Node.{Node}
 use Rattle.trust_types.specs.declared.accounts.Node.TheVariants.{Root, Account}
 use Rattle.trust_types.specs.declared.flows.FlowLine.{FlowLine}
-use Rattle.trust_types.specs.Flow.{Flow}
+use Rattle.trust_types.specs.Flow.{Flow, is_served, units_in, units_out}
+use Rattle.trust_types.specs.Roster.{ServesConduits}
 use Rattle.trust_types.specs.Rows.{GivesEachOnce}
 use Rattle.trust_types.specs.Layout.{Rows, accounts, certificates, degree, taker, given}
 use Rattle.trust_types.specs.Lines.{place, same_node, flow_of, is_before}
+use Rattle.trust_types.proofs.Sums.{part-le-sum_below}
 use Rattle.solver.proofs.Listing.{same_place}
 use Rattle.solver.specs.Writing.{GoesAlong, with_line, is_earlier, IsWritten, AreLinesOf}
 
@@ -168,6 +170,15 @@ row_more r f a i lines l readers account within is from_is to_is units_is =
 
 pub row_all : (r : Rows) (f : Flow) (a : ℕ) (lines : List FlowLine) → IsRowWritten r f a (degree r a) lines → IsWritten f (a + 1 + 1) 0 lines
 row_all r f a lines is = written_row f (Account a) is.b lines is.written (λ d from. nothing (f (Account a) d) (λ some. let h = is.rest d from some in omega (arith, h.1, h.2)))
+
+-- an account that isn't served passes nothing on
+pub row_unserved : (r : Rows) (f : Flow) (a : ℕ) (lines : List FlowLine) → GivesEachOnce (certificates r) (degree r) (given r) → GoesAlong r f → ServesConduits (accounts r) f → a < accounts r →
+    is_served (accounts r) f a ≡ false → IsWritten f (a + 1) 0 lines → IsWritten f (a + 1 + 1) 0 lines
+row_unserved r f a lines readers goes conduits account unserved is = written_row f (Account a) 0 lines is (λ d from. nothing (f (Account a) d) (λ some.
+    let along = goes.certs a d some in
+    let inside : d < accounts r = omega (arith, readers.taker a along.1.0 account along.1.1, along.1.2) in
+    let out : 0 < units_out (accounts r) f (Account a) = omega (arith, part-le-sum_below (accounts r) (f (Account a)) d inside) in
+    eqb-false (units_in (accounts r) f a) (units_out (accounts r) f (Account a) + 1) unserved (conduits a account out)))
 
 -- the root's row ends at the last account
 pub root_all : (r : Rows) (f : Flow) (lines : List FlowLine) → GoesAlong r f → IsWritten f 0 (accounts r) lines → IsWritten f 1 0 lines

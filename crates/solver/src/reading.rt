@@ -3,6 +3,7 @@
 ghost use Rattle.std.specs.Prelude.{◌≡◌, ◌<◌, ◌+◌, IfOk};
 ghost use Rattle.trust_types.specs.Levels.{IsGrade};
 ghost use Rattle.trust_types.specs.Flow.{IsServed};
+ghost use Rattle.trust_types.specs.Roster.{ServesConduits};
 ghost use Rattle.trust_types.specs.Layout.{degree, given};
 ghost use Rattle.trust_types.specs.Proven.{IsProven};
 ghost use Rattle.trust_types.specs.Rows.{GivesEachOnce};
@@ -69,7 +70,7 @@ fn add_root_lines(
     Ok(())
 }
 
-/// Adds the lines of the edges from an account.
+/// Adds the lines of the edges from an account. One that isn't served passes nothing on, so none is read.
 fn add_lines_from(
     lines: &mut Vec<FlowLine>,
     workspace: &Workspace,
@@ -79,10 +80,14 @@ fn add_lines_from(
     requires graph { workspace.now.network.graph ≡ frozen.now }
     requires readers { GivesEachOnce (certificates frozen.now) (degree frozen.now.rows) (given frozen.now.rows) }
     requires goes_along { GoesAlong frozen.now.rows (flow_in workspace.now) }
+    requires conduits { ServesConduits (certificates frozen.now).accounts (flow_in workspace.now) }
     requires giver { giver < (certificates frozen.now).accounts }
     requires written { IsWritten (flow_in workspace.now) (giver + 1) 0 lines.old.items }
     ensures { IfOk result (λ _. IsWritten (flow_in workspace.now) (giver + 1 + 1) 0 lines.new.items) }
 {
+    if !workspace.served(giver) {
+        return Ok(());
+    }
     for i in 0..frozen.degree(giver) {
         let to = frozen.given(giver, i).to;
         add_line(lines, Node::Account(giver), to, workspace.units(giver, i))?;
@@ -98,6 +103,7 @@ fn flow_lines(
 ) -> Result<Vec<FlowLine>, NoMemory>
     requires graph { workspace.now.network.graph ≡ frozen.now }
     requires goes_along { GoesAlong frozen.now.rows (flow_in workspace.now) }
+    requires conduits { ServesConduits (certificates frozen.now).accounts (flow_in workspace.now) }
     ensures { IfOk result (λ lines. AreLinesOf (flow_in workspace.now) lines.items) }
 {
     let accounts = frozen.accounts();

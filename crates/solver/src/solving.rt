@@ -35,10 +35,27 @@ fn solve_level<L: Ledger>(
 ) -> Result<LevelRoster, NoMemory>
     requires grade { IsGrade level }
     requires room { Fits frozen.now workspace.old.network.room }
-    ensures room { workspace.new.network.room ≡ workspace.old.network.room }
+    ensures graph { workspace.new.network.graph ≡ frozen.now }
     ensures roster { IfOk result (λ roster. IsRosterFor frozen.now level roster) }
 {
     workspace.solve(frozen, level, steps);
+    roster_of(alloc, workspace, frozen, level)
+}
+
+/// Solves at another level the graph that was solved last.
+fn solve_level_again<L: Ledger>(
+    alloc: Global,
+    workspace: &mut Workspace,
+    frozen: &Frozen,
+    level: Level,
+    steps: &mut Steps<L>,
+) -> Result<LevelRoster, NoMemory>
+    requires grade { IsGrade level }
+    requires graph { workspace.old.network.graph ≡ frozen.now }
+    ensures graph { workspace.new.network.graph ≡ frozen.now }
+    ensures roster { IfOk result (λ roster. IsRosterFor frozen.now level roster) }
+{
+    workspace.solve_again(frozen, level, steps);
     roster_of(alloc, workspace, frozen, level)
 }
 
@@ -60,7 +77,7 @@ fn solve_once<L: Ledger>(
     solve_level(alloc, &mut workspace, frozen, level, &mut steps)
 }
 
-/// Solves the graph at each grade in turn, in one workspace.
+/// Solves the graph at each grade in turn, in one workspace: its arcs are laid out once.
 fn solve_grades<L: Ledger>(
     alloc: Global,
     frozen: &Arc<Frozen>,
@@ -75,8 +92,8 @@ fn solve_grades<L: Ledger>(
     let mut steps = Steps::<L>::new(blank);
     let mut workspace = workspace_for(alloc, frozen)?;
     let apprentice = solve_level(alloc, &mut workspace, frozen, Level::Apprentice, &mut steps)?;
-    let journeyer = solve_level(alloc, &mut workspace, frozen, Level::Journeyer, &mut steps)?;
-    let master = solve_level(alloc, &mut workspace, frozen, Level::Master, &mut steps)?;
+    let journeyer = solve_level_again(alloc, &mut workspace, frozen, Level::Journeyer, &mut steps)?;
+    let master = solve_level_again(alloc, &mut workspace, frozen, Level::Master, &mut steps)?;
     Ok(Candidate::of(Arc::try_clone(frozen)?, apprentice, journeyer, master))
 }
 
