@@ -1,4 +1,5 @@
 mod Saying
+mod Forming
 mod Drafting
 mod Entering
 mod Marking

@@ -63,10 +63,13 @@ impl SiteDraft {
     pub fn read(&mut self, line: &[u8]) -> Result<(), LineFault>
         ensures { (k : List Record) → IsSiteDraft self.old k → Reads IsSiteDraft result self.new (site_line k line.now) }
     {
-        if !is_line(line) {
+        let outcome = self.form(&mut Words::of(line));
+        // Keywords, names and levels are words, so a line that was read is one. The test may come last, and sees only lines
+        // with a fault.
+        if outcome.is_err() && !is_line(line) {
             return Err(LineFault::Kind(TextKind::BadLine));
         }
-        self.form(&mut Words::of(line))
+        outcome
     }
 
     /// The names of the accounts so far, with their numbers.

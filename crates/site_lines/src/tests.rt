@@ -17,10 +17,12 @@ fn reads_the_lines_of_a_site(rt: HostRuntime) -> Result<(), Fail> {
     for line in good {
         assert!(rt; draft.read(line).is_ok());
     }
-    let faulty: [(&[u8], TextKind); 12] = [
+    let faulty: [(&[u8], TextKind); 14] = [
         (b"account A b", TextKind::BadLine),
         (b"caps default", TextKind::BadLine),
         (b"cert a  b Master", TextKind::BadLine),
+        (b"cert x  Master", TextKind::BadLine),
+        (b"account Raph\t", TextKind::BadLine),
         (b"cert A x master", TextKind::BadLevel),
         (b"cert x 9 Master", TextKind::BadName),
         (b"cert x x Master", TextKind::Unknown),

@@ -1,9 +1,8 @@
 -- What is written in a word is a word, and is read again as it was.
-use Rattle.std.proofs.Common.{◌≡◌, ◌≢◌, ℕ, ◌<◌, ◌≤◌, ◌^◌, Bool, true, false, if◌then◌else◌, ◌==◌, cond, List, [], ◌∷◌, length, get_or, Some, None, All, refl, arith, nat_lt, decimal, codes, subst}
-use Rattle.std.specs.List.{list_all, position_or_len}
+use Rattle.std.proofs.Common.{◌≡◌, ◌≢◌, ℕ, ◌<◌, ◌≤◌, ◌^◌, Bool, true, false, if◌then◌else◌, ◌==◌, cond, List, [], length, get_or, Some, None, All, refl, arith, nat_lt, decimal, codes, subst}
+use Rattle.std.specs.List.{position_or_len}
 use Rattle.std.specs.Str.{bytes_eq}
 use Rattle.std.proofs.lemmas.Bool.{false≢true}
-use Rattle.std.proofs.lemmas.Bool.Decides.{nat_tests}
 use Rattle.std.proofs.lemmas.List.Sums.{position_or_len_is}
 use Rattle.std.proofs.lemmas.Slice.Eq.{bytes_eq-Decides}
 use Rattle.trust_types.specs.declared.levels.Level.{Level}
@@ -11,39 +10,14 @@ use Rattle.trust_types.specs.declared.levels.Level.TheVariants.{Observer, Appren
 use Rattle.trust_types.specs.declared.accounts.Node.{Node}
 use Rattle.trust_types.specs.declared.accounts.Node.TheVariants.{Root, Account}
 use Rattle.trust_types.specs.Levels.{level_name, level_of}
-use Rattle.trust_types.specs.Names.{is_name, is_name_byte, IsName}
+use Rattle.trust_types.specs.Names.{is_name, IsName}
 use Rattle.trust_types.specs.NameLists.{number_of, AreApart}
 use Rattle.trust_types.specs.Lines.{place}
-use Rattle.text_lines.specs.Words.{is_word, is_graphic}
+use Rattle.text_lines.specs.Words.{is_word}
 use Rattle.text_lines.proofs.Decimals.{number-decimal}
-use Rattle.text_lines.proofs.Joining.{both, and_true}
+use Rattle.text_lines.proofs.Spelled.{is_word-name}
 use Rattle.claim_lines.specs.Claim.{is_dash, is_node, node_of, units_of}
 use Rattle.cut_check.specs.Line.{name_of, node_name}
-
-graphic : (b : ℕ) → is_name_byte b ≡ true → is_graphic b ≡ true
-graphic b e = grind (arith, nat_tests)
-
-all_graphic : (word : List ℕ) → list_all is_name_byte word ≡ true → list_all is_graphic word ≡ true
-all_graphic [] e = refl
-all_graphic (b ∷ bs) e =
-    let h = both (is_name_byte b) (list_all is_name_byte bs) e in
-    and_true (is_graphic b) (list_all is_graphic bs) (graphic b h.0) (all_graphic bs h.1)
-
-named_word : (word : List ℕ) → is_name word ≡ true → is_word word ≡ true
-named_word [] e = absurd (false≢true e)
-named_word (b ∷ bs) e =
-    let some : nat_lt 0 (length (b ∷ bs)) ≡ true = grind (arith, nat_tests) in
-    let each : list_all is_name_byte (b ∷ bs) ≡ true = grind arith in
-    and_true _ (list_all is_graphic (b ∷ bs)) some (all_graphic (b ∷ bs) each)
-
-pub is_word-name : (word : List ℕ) → IsName word → is_word word ≡ true
-is_word-name word named = named_word word named
-
-pub is_word-level : (level : Level) → is_word (level_name level) ≡ true
-is_word-level Observer = refl
-is_word-level Apprentice = refl
-is_word-level Journeyer = refl
-is_word-level Master = refl
 
 pub level_of-name : (level : Level) → level_of (level_name level) ≡ Some level
 level_of-name Observer = refl

@@ -22,7 +22,7 @@ use frozen::Frozen;
 use site_lines::{SiteDraft, SiteParts, read_table};
 use std::alloc::Global;
 use std::sync::Arc;
-use text_lines::{LineFault, Lines, TextFault, TextKind};
+use text_lines::{Lines, TextFault, TextKind};
 use trust_types::{Caps, CertList, Level, NameIndex, NoMemory};
 
 /// The lines of a site, read, and the `level` line that ended them, where one did.

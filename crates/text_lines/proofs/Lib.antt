@@ -4,3 +4,4 @@ pub mod Decimals
 pub mod Joining
 mod Lining
 pub mod Following
+pub mod Spelled

@@ -1,10 +1,10 @@
 //! Lines, words and numbers of the texts that the program reads, and how a text is read line by line.
 #![tactic(auto)]
 
+mod ends;
 mod faults;
 mod lines;
 mod numbers;
-mod places;
 mod words;
 
 pub use faults::{LineFault, TextFault, TextKind};

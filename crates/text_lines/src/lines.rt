@@ -1,7 +1,7 @@
 ghost use Rattle.std.specs.Prelude.{◌≡◌, ◌+◌, ◌<◌, ◌^◌, [], ◌∷◌, length, MatchOption, OnSome, IfNone};
 ghost use Rattle.text_lines.specs.Words.{lines};
 
-use crate::places::place_of;
+use crate::ends::line_end;
 use std::marker::Model;
 
 /// What is left of a text, of which one line after another is read. It copies nothing. Contracts see how many lines
@@ -35,7 +35,7 @@ impl<'a> Lines<'a> {
         }
     }
 
-    /// The next line, without its LF; `None` where no byte is left. It looks at each byte of the line once.
+    /// The next line, without its LF; `None` where no byte is left. It searches the line's bytes once, many at a time.
     pub fn next_line(&mut self) -> Option<&'a [u8]>
         ensures line { MatchOption result (lines self.old.bytes ≡ []) (λ line. lines self.old.bytes ≡ line.now ∷ lines self.new.bytes) }
         ensures number { OnSome result (self.new.number ≡ self.old.number + 1) }
@@ -47,7 +47,7 @@ impl<'a> Lines<'a> {
         }
         let rest = self.rest;
         self.read += 1;
-        let Some(end) = place_of(b'\n', rest) else {
+        let Some(end) = line_end(rest) else {
             self.rest = &[];
             return Some(rest);
         };
