@@ -7,7 +7,7 @@ ghost use Rattle.trust_types.specs.Flow.{is_served};
 ghost use Rattle.trust_types.specs.Layout.{degree, taker};
 ghost use Rattle.frozen.specs.Revision.{certificates};
 ghost use Rattle.split_graph.specs.Split.{IsNode};
-ghost use Rattle.split_graph.specs.Network.{Fits};
+ghost use Rattle.split_graph.specs.Network.{Fits, nothing};
 ghost use Rattle.flow_engine.specs.Solved.{IsSolved, flow_in, sides_in};
 ghost use Rattle.flow_engine.specs.Held.{IsLoaded, IsReadable, IsSolvedIn};
 ghost use Rattle.flow_engine.specs.Tree.{HasRoom};
@@ -122,7 +122,8 @@ impl Workspace {
     /// # Errors
     /// [`NoMemory`] where that memory can't be had.
     pub fn reserve(alloc: Global, accounts: u32, certs: u32) -> Result<Workspace, NoMemory>
-        ensures { IfOk result (λ workspace. workspace.network.room ≡ record { accounts = accounts; certs = certs }) }
+        ensures room { IfOk result (λ workspace. workspace.network.room ≡ record { accounts = accounts; certs = certs }) }
+        ensures empty { IfOk result (λ workspace. workspace.network.graph ≡ nothing) }
     {
         Ok(Workspace {
             residual: Residual::reserve(alloc, accounts, certs)?,
@@ -160,8 +161,8 @@ impl Workspace {
         );
     }
 
-    /// Finds the same at another level of the graph that was solved last, whose arcs need no second laying out: a small part of
-    /// what `solve` takes is left, and the searches.
+    /// Finds the same at another level of the graph that was solved last. Its arcs stay where they lie, which spares most of the
+    /// loading.
     ///
     /// It takes no memory. `steps` counts the arcs that it looks at.
     pub fn solve_again<L: Ledger>(&mut self, frozen: &Frozen, level: Level, steps: &mut Steps<L>)

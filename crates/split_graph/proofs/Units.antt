@@ -8,7 +8,7 @@ use Rattle.split_graph.specs.Arcs.{Arcs, AreArcs, IsSameGraph, LeadsTo, arc_coun
 use Rattle.trust_types.specs.Layout.{Rows}
 use Rattle.split_graph.specs.Moved.{IsOneMoved}
 use Rattle.split_graph.specs.Network.{AreInPlace}
-use Rattle.split_graph.proofs.Sums.{sum_below-point, sum_below-lone, sum_below-none, sum_below-some}
+use Rattle.split_graph.proofs.Sums.{sum_below-point, sum_below-lone, sum_below-some}
 
 pub share_hit : (i j x y k : ℕ) → i ≡ x → j ≡ y → share i j x y k ≡ k
 share_hit i j x y k e f = grind (arith, nat_tests)
@@ -47,12 +47,6 @@ between-arc a are e below =
     sum_below-lone (arc_count a) (λ d. share (tail_of a d) (head_of a d) x y (rest_of a d)) e below
     (λ d lt other. share_miss (tail_of a d) (head_of a d) x y (rest_of a d) (λ p q. other (are.simple d e lt below p q)))
     ∙ share_hit x y x y (rest_of a e) refl refl
-
--- no arc joins a node with itself
-pub between-itself : (a : Arcs) → AreArcs a → (x : ℕ) → between a x x ≡ 0
-between-itself a are x =
-    sum_below-none (arc_count a) (λ d. share (tail_of a d) (head_of a d) x x (rest_of a d))
-    (λ d lt. share_miss (tail_of a d) (head_of a d) x x (rest_of a d) (λ p q. are.apart d lt (p ∙ sym q)))
 
 -- where something can be moved, there is an arc along which it can
 pub arc-between : (a : Arcs) (u v : ℕ) → 0 < between a u v → (e : ℕ) × (e < arc_count a) × (tail_of a e ≡ u) × (head_of a e ≡ v) × (0 < rest_of a e)
