@@ -4,9 +4,10 @@
     bench/rosters.py [RUNS]
 
 The sites are those of `graphs.py`, one of each kind, with 100,000 accounts and about 2,000,000 certificates. For each kind it
-shows the user seconds of both programs, for LEMON's also those of its three solves alone, the most memory that each one held, that of
-virgule also as a multiple of the text's size (the aim is at most six), and whether both accept equally many accounts at each
-level. Then `check` reads the audit of one of these sites, beside `sha256sum` on it. Nothing depends on these numbers.
+shows the user seconds of both programs, those of virgule also as a part of the other's (the aim is at most a half), and for LEMON's
+also those of its three solves alone; the most memory that each one held, that of virgule also as a multiple of the text's size
+(the aim is at most six); and whether both accept equally many accounts at each level. Then `check` reads the audit of one of these
+sites, beside `sha256sum` on it. Nothing depends on these numbers.
 
 The programs run in turn, each so many times (3 where none is named), and the least time and the most memory are shown.
 virgule is built first where it has to be; the other needs `g++` and LEMON's headers (Debian's `liblemon-dev`).
@@ -44,7 +45,7 @@ def print_rosters(kind, text, other, runs):
     found = counts(ours.output)
     agree = "agree" if found == counts(theirs.output) else "DIFFER"
     print(
-        f"{kind:<10} {size:7.1f} {ours.user:9.2f} {ours.memory:8.1f} {ours.memory / size:6.1f}"
+        f"{kind:<10} {size:7.1f} {ours.user:9.2f} {ours.user / theirs.user:6.2f} {ours.memory:8.1f} {ours.memory / size:6.1f}"
         f" {theirs.user:9.2f} {solves:7.2f} {theirs.memory:8.1f}"
         f"   {' '.join(number for _, number in found)} {agree}",
         flush=True,
@@ -67,8 +68,10 @@ def print_check(site, level, proof, runs):
 def main():
     runs = int(sys.argv[1]) if len(sys.argv) > 1 else 3
     subprocess.run([TOP / "virgule", "check"], stdin=subprocess.DEVNULL, stdout=subprocess.DEVNULL, check=False)
-    print(f"{'':<10} {'text':>7} {'virgule':>25} {'LEMON':>26}   accepted")
-    print(f"{'':<10} {'MB':>7} {'user s':>9} {'MB':>8} {'times':>6} {'user s':>9} {'solves':>7} {'MB':>8}   lowest level first")
+    print(f"{'':<10} {'text':>7} {'virgule':>32} {'LEMON':>26}   accepted")
+    print(
+        f"{'':<10} {'MB':>7} {'user s':>9} {'part':>6} {'MB':>8} {'times':>6} {'user s':>9} {'solves':>7} {'MB':>8}   lowest level first"
+    )
     with tempfile.TemporaryDirectory() as folder:
         other, site, proof = (Path(folder) / name for name in ("preflow", "limits.site", "limits.proof"))
         subprocess.run(["g++", "-O2", "-o", other, TOP / "bench" / "preflow.cpp"], check=True)
