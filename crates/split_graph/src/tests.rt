@@ -29,9 +29,10 @@ fn site(alloc: Global) -> Result<Arc<Frozen>, Fail>
     let mut names = NameIndex::new(alloc);
     for number in 0..3 {
         let name = Name::read(&[b'a' + number]).ok_or("a name")?;
-        if names.find(&name).is_none() {
-            names.push(name)?;
+        if names.find(&name).is_some() {
+            return Err("a name twice".into());
         }
+        names.push(name)?;
     }
     if names.count() != 3 {
         return Err("three names".into());
