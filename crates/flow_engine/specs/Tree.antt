@@ -6,7 +6,7 @@ use Rattle.split_graph.specs.Arcs.{Arcs, arc_count, first_of, head_of, tail_of, 
 use Rattle.flow_engine.specs.declared.searches.Place.{Place}
 
 -- The nodes reached, with the arc by which each was, for each split node whether it was, and for how many nodes there is room; and
--- from which place on their arcs are still to be looked at, first those that lead ahead and then those that take units back.
+-- from which place on their arcs are still to be looked at, and those of their arcs that come last.
 pub record Reached : Type 0 where
   pub places : List Place
   pub seen : List Bool
@@ -74,8 +74,8 @@ IsLookedAt a s e = 0 < rest_of a e → is_seen s (head_of a e) ≡ true
 abbrev pub AreLookedAt : Arcs → Reached → ℕ → ℕ → Type 0
 AreLookedAt a s from to = (e : ℕ) → from ≤ e → e < to → IsLookedAt a s e
 
--- Where the arcs of a node begin that are left for last: those of a first half behind the two that lead ahead, through the node and
--- to the supersink. They take units back, and may be many.
+-- Where the arcs of a node begin that come last: those of a first half behind its two own, through the node and to the supersink. They
+-- give units back, and may be many. A second half has none: its one arc back, through the node, is looked at with the others.
 abbrev pub returns_from : Arcs → ℕ → ℕ
 returns_from a v = if v % 2 == 0 then min (first_of a v + 2) (first_of a (v + 1)) else first_of a (v + 1)
 
@@ -131,7 +131,7 @@ pub record IsWay (a : Arcs) (s : Reached) (at e : ℕ) : Type 0 where
   pub closed : AreClosed a s at
   pub ends : EndsWay a (node_at s at) e
 
--- Only the source was reached.
+-- Only the source was reached, and no arc was looked at.
 pub record IsBegun (old new : Reached) : Type 0 where
   pub count : reached_count new ≡ 1
   pub source : node_at new 0 ≡ 0

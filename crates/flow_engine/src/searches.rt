@@ -1,4 +1,4 @@
-//! Searches through a residual graph for a way to the supersink, the split nodes nearest to the source first.
+//! Searches through a residual graph for a way to the supersink.
 
 ghost use Rattle.std.specs.Prelude.{ℕ, ◌≡◌, ◌<◌, ◌≤◌, ◌+◌, IfSome, IfNone, IfOk, length, vec_capacity, true, false, slice_index_or};
 ghost use Rattle.split_graph.specs.Split.{supersink};
@@ -33,9 +33,9 @@ pub struct Way {
 pub struct Search {
     places: Vec<Place>,
     seen: Vec<bool>,
-    /// Of the places before this one, the arcs that lead ahead were looked at.
+    /// Of the places before this one, the arcs that don't come last were looked at.
     ahead: usize,
-    /// Of the places before this one, those that take units back were too.
+    /// Of the places before this one, those that come last were too.
     behind: usize,
 }
 
@@ -73,8 +73,8 @@ fn ending<L: Ledger>(residual: &Residual, node: u32, steps: &mut Steps<L>) -> Op
     (residual.rest(arc) > 0).then_some(arc)
 }
 
-/// Where the arcs of a node begin that are left for last: those of a first half behind the two that lead ahead, through the node and
-/// to the supersink. They take units back, and may be many.
+/// Where the arcs of a node begin that come last: those of a first half behind its two own, through the node and to the supersink. They
+/// give units back, and may be many. A second half has none: its one arc back, through the node, is looked at with the others.
 fn returns_from(residual: &Residual, node: u32) -> u32
     requires stands { StandsFor residual.now }
     requires node { node < supersink residual.now.arcs.accounts }
@@ -249,7 +249,7 @@ impl Search {
         None
     }
 
-    /// Looks at the arcs that lead ahead from the next place.
+    /// Looks at the arcs of the next place that don't come last.
     fn look_ahead<L: Ledger>(&mut self, residual: &Residual, steps: &mut Steps<L>) -> Option<Way>
         requires stands { StandsFor residual.now }
         requires searching { IsSearching residual.now.arcs self.old }
@@ -272,11 +272,12 @@ impl Search {
         None
     }
 
-    /// Looks at the arcs that take units back from the next place.
+    /// Looks at the arcs of the next place that come last, once all others of all places were looked at.
     fn look_behind<L: Ledger>(&mut self, residual: &Residual, steps: &mut Steps<L>) -> Option<Way>
         requires stands { StandsFor residual.now }
         requires searching { IsSearching residual.now.arcs self.old }
         requires left { self.old.behind < self.old.ahead }
+        requires last { self.old.ahead ≡ reached_count self.old }
         ensures way { IfSome result (λ way. IsWay residual.now.arcs self.new way.at way.arc) }
         ensures searching { IfNone result (IsSearching residual.now.arcs self.new) }
         ensures next { IfNone result (self.new.behind ≡ self.old.behind + 1) }
@@ -295,8 +296,8 @@ impl Search {
         None
     }
 
-    /// Searches for a way to the supersink, from the first unserved account that it reaches. Arcs that take units back are looked at
-    /// only where no others are left. Where there is no way, all that can be reached was reached.
+    /// Searches for a way to the supersink, from the first unserved account that it reaches. The arcs by which a first half gives units
+    /// back are looked at only where no others are left. Where there is no way, all that can be reached was reached.
     pub fn search<L: Ledger>(&mut self, residual: &Residual, steps: &mut Steps<L>) -> Option<Way>
         requires stands { StandsFor residual.now }
         requires room { HasRoom residual.now.arcs.accounts self.old }

@@ -7,6 +7,7 @@ ghost use Rattle.trust_types.specs.Flow.{is_served};
 ghost use Rattle.trust_types.specs.Layout.{degree, taker};
 ghost use Rattle.frozen.specs.Revision.{certificates};
 ghost use Rattle.split_graph.specs.Split.{IsNode};
+ghost use Rattle.split_graph.specs.Arcs.{IsSameGraph};
 ghost use Rattle.split_graph.specs.Network.{Fits, nothing};
 ghost use Rattle.flow_engine.specs.Solved.{IsSolved, flow_in, sides_in};
 ghost use Rattle.flow_engine.specs.Held.{IsLoaded, IsReadable, IsSolvedIn};
@@ -60,6 +61,7 @@ fn reload(
     ensures room { residual.new.room ≡ residual.old.room }
     ensures graph { residual.new.graph ≡ frozen.now }
     ensures level { residual.new.level ≡ level }
+    ensures arcs { IsSameGraph residual.old.arcs residual.new.arcs }
     ensures loaded { IsLoaded residual.new }
     ensures queue { queue.new ≡ queue.old }
 {
@@ -84,6 +86,7 @@ fn solve_loaded<L: Ledger>(
     ensures room { residual.new.room ≡ residual.old.room }
     ensures graph { residual.new.graph ≡ frozen.now }
     ensures level { residual.new.level ≡ residual.old.level }
+    ensures arcs { IsSameGraph residual.old.arcs residual.new.arcs }
     ensures long { length search.new.seen ≡ length search.old.seen }
     ensures places { search.new.room ≡ search.old.room }
     ensures readable { IsReadable residual.new root_units.new }
@@ -171,6 +174,7 @@ impl Workspace {
         ensures room { self.new.network.room ≡ self.old.network.room }
         ensures graph { self.new.network.graph ≡ frozen.now }
         ensures level { self.new.network.level ≡ level }
+        ensures arcs { IsSameGraph self.old.network.arcs self.new.network.arcs }
         ensures solved { IsSolved (certificates frozen.now) level frozen.now.caps (flow_in self.new) (sides_in self.new) }
     {
         reload(

@@ -57,8 +57,8 @@ impl SiteDraft {
     /// Reads one line more.
     ///
     /// # Errors
-    /// [`LineFault::Kind`] exactly where the line has a fault, with its kind, and [`LineFault::NoMemory`] where memory ran
-    /// out. The draft is of no more use then.
+    /// [`LineFault::Kind`] where the line has a fault, with its kind, unless memory ran out, and only there;
+    /// [`LineFault::NoMemory`] where memory ran out. The draft is of no more use then.
     #[tactic(auto, unfolding(crate::specs::Site::site_line))]
     pub fn read(&mut self, line: &[u8]) -> Result<(), LineFault>
         ensures { (k : List Record) → IsSiteDraft self.old k → Reads IsSiteDraft result self.new (site_line k line.now) }

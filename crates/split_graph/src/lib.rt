@@ -10,4 +10,4 @@ mod split_nodes;
 mod tests;
 
 pub use residual_graph::Residual;
-pub use split_nodes::{entered_account, first_half, second_half, supersink};
+pub use split_nodes::{entered_account, first_half, second_half};

@@ -8,7 +8,7 @@ ghost use Rattle.trust_types.specs.Capacity.{entry, AreCapacities, cap_by};
 ghost use Rattle.frozen.specs.Revision.{certificates};
 ghost use Rattle.split_graph.specs.Split.{first_half, second_half, supersink, node_count, IsNode, IsSplitGraph};
 ghost use Rattle.split_graph.specs.Moved.{IsOneMoved};
-ghost use Rattle.split_graph.specs.Arcs.{arc_count, first_of, head_of, tail_of, rest_of, between, move_one, LeadsTo};
+ghost use Rattle.split_graph.specs.Arcs.{IsSameGraph, arc_count, first_of, head_of, tail_of, rest_of, between, move_one, LeadsTo};
 ghost use Rattle.split_graph.specs.Network.{Fits, StandsFor, nothing, given_count, IsTaker, arc_along};
 
 use crate::arc_table::ArcTable;
@@ -113,6 +113,7 @@ impl Residual {
         ensures room { self.new.room ≡ self.old.room }
         ensures graph { self.new.graph ≡ frozen.now }
         ensures level { self.new.level ≡ level }
+        ensures arcs { IsSameGraph self.old.arcs self.new.arcs }
         ensures split { IsSplitGraph (certificates frozen.now) level (cap_by (entry frozen.now.caps 0) caps_of.now) (between self.new.arcs) }
         ensures stands { StandsFor self.new }
     {
@@ -172,7 +173,7 @@ impl Residual {
         self.table.first(second_half(&from)) + (i + 1)
     }
 
-    /// The arc from an account to the supersink. A unit may be moved along it while the account isn't served.
+    /// The arc from an account to the supersink, along which one unit may be moved.
     pub fn end_arc(&self, account: AccountNo) -> u32
         requires { account < (certificates self.now.graph).accounts }
         ensures place { result ≡ first_of self.now.arcs (first_half (Account account)) + 1 }

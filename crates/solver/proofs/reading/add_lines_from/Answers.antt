@@ -18,7 +18,7 @@ loop-i-preserved c =
     let a : ℕ = c.args.giver in
     let i : ℕ = c.loop-i.i in
     rw c.in_ok-add_line.ensures
-    (row_more r f a i c.loop-i.lines.items (record { from = Account a; to = c.given-to.result.to; units = c.units.result }) c.requires.readers c.requires.giver (omega (arith, c.degree-i-end.ensures))
+    (row_more r f a i c.loop-i.lines.items (record { from = Account a; to = c.given-to.result.to; units = c.units.result }) c.requires.readers c.requires.giver (omega arith)
     c.loop-i.invariant refl (ap (λ (d : Cert). d.to) c.given-to.ensures)
     (c.units.ensures ∙ ap (λ (g : Revision). f (Account a) (taker g.rows a i)) c.requires.graph))
 

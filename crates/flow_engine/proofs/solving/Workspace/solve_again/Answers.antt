@@ -1,7 +1,9 @@
 use Rattle.std.proofs.Common.{ℕ, ◌≡◌, ◌∙◌, ap, subst, sym, List, length}
 use Rattle.std.proofs.lemmas.List.{with_items_is}
 use Rattle.std.specs.Vec.{with_items}
+use Rattle.split_graph.specs.Arcs.{IsSameGraph}
 use Rattle.split_graph.specs.Network.{Room}
+use Rattle.flow_engine.specs.Solved.{Solved}
 use Rattle.flow_engine.specs.Held.{IsReadable}
 use Rattle.flow_engine.proofs.Results.{still_reserved}
 use Rattle.flow_engine.proofs.solving.Workspace.solve_again.Goals as goal
@@ -20,6 +22,14 @@ invariant_of-self g c =
           (ap length units_is ∙ c.solve_loaded.auto.root_units ∙ ap length c.deref_mut-2.ensures.value),
       subst (IsReadable c.solve_loaded.new.residual) (sym units_is) c.solve_loaded.ensures.readable,
     )
+
+pub returns-clause-arcs : goal.returns-clause-arcs
+returns-clause-arcs g c =
+    let loaded = c.reload.ensures.arcs in
+    let solved = c.solve_loaded.ensures.arcs in
+    let here : IsSameGraph c.self.inside.residual.arcs c.solve_loaded.new.residual.arcs =
+    record { accounts = solved.accounts ∙ loaded.accounts; first = solved.first ∙ loaded.first; head = solved.head ∙ loaded.head; twin = solved.twin ∙ loaded.twin } in
+    subst (λ (s : Solved). IsSameGraph s.network.arcs c.solve_loaded.new.residual.arcs) c.self.view_is here
 
 pub returns-clause-solved : goal.returns-clause-solved
 returns-clause-solved g c = rw (c.solve_loaded.ensures.graph, c.solve_loaded.ensures.level, c.reload.ensures.level) at c.solve_loaded.ensures.solved
