@@ -1,1 +1,2 @@
 pub mod Attack
+pub mod inner

@@ -6,7 +6,8 @@ ghost use Rattle.trust_types.specs.Boundary.{bound, edges_into};
 ghost use Rattle.trust_types.specs.Capacity.{cap_by};
 ghost use Rattle.trust_types.specs.Levels.{IsGrade};
 ghost use Rattle.trust_types.specs.Rows.{GivesEachOnce};
-ghost use Rattle.attack_bound.specs.Attack.{members_by, added};
+ghost use Rattle.attack_bound.specs.Attack.{members_by};
+ghost use Rattle.attack_bound.specs.inner.Added.{added};
 
 use trust_types::{AccountNo, CertGraph, Level};
 

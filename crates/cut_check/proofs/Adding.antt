@@ -11,7 +11,7 @@ use Rattle.trust_types.specs.Flow.{Flow, units_in, units_out}
 use Rattle.trust_types.specs.Lines.{place, same_node, flow_of}
 use Rattle.trust_types.proofs.Sums.{sum_below-add, sum_below-eq, sum_below-zero}
 use Rattle.trust_types.specs.Lines.{IsLineBefore, IsLineAmong}
-use Rattle.cut_check.specs.Sums.{AreSums}
+use Rattle.cut_check.specs.inner.Sums.{AreSums}
 use Rattle.cut_check.proofs.FlowLines.{carried, carried_pair, before_pairs, line_of_units}
 
 -- A sum in which one number alone counts.

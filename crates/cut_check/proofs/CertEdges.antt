@@ -8,7 +8,7 @@ use Rattle.trust_types.specs.Levels.{rank, IsGrade}
 use Rattle.trust_types.specs.Graph.{Certificates, HasEdge}
 use Rattle.trust_types.specs.Rows.{GivesEachOnce}
 use Rattle.trust_types.proofs.Walks.{cert_of_edge}
-use Rattle.cut_check.specs.Cursor.{AreLesser}
+use Rattle.cut_check.specs.inner.Cursor.{AreLesser}
 
 -- Certificates for lesser takers come before.
 pub lesser_before : {g : Certificates} {degree : ℕ → ℕ} {given : ℕ → ℕ → Cert} → GivesEachOnce g degree given →

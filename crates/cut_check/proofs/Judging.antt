@@ -17,9 +17,9 @@ use Rattle.trust_types.specs.Lines.{sides_of}
 use Rattle.cut_check.specs.declared.proofs.Proof.{Proof}
 use Rattle.cut_check.specs.declared.checks.RootFigures.{RootFigures}
 use Rattle.cut_check.specs.Rules.{EndsInside}
-use Rattle.cut_check.specs.Searches.{FindsPair}
-use Rattle.cut_check.specs.Sides.{side_by}
-use Rattle.cut_check.specs.Figures.{AreFigures}
+use Rattle.cut_check.specs.inner.Searches.{FindsPair}
+use Rattle.cut_check.specs.inner.Sides.{side_by}
+use Rattle.cut_check.specs.inner.Figures.{AreFigures}
 
 pub found_of_cut : {p : Proof} {root : RootFigures} {ins outs : List ℕ} {at : List Side} {caps : List ℕ} → AreFigures p root ins outs at caps →
     (found : Option (Node × ℕ)) → FindsPair (accounts p.graph) (EndsInside (row_certificates p.graph) p.level (side_by root.side at)) found →

@@ -12,7 +12,7 @@ use Rattle.trust_types.specs.Lines.{place, flow_of}
 use Rattle.trust_types.specs.Lines.{IsLineAmong, IsLineBefore}
 use Rattle.cut_check.specs.Rules.{KeepsToEdge}
 use Rattle.cut_check.specs.Firsts.{FailsFirstAtPair, HoldsAtPairs}
-use Rattle.cut_check.specs.Cursor.{AreLesser, HasPassed}
+use Rattle.cut_check.specs.inner.Cursor.{AreLesser, HasPassed}
 use Rattle.cut_check.proofs.FlowLines.{before_pairs, line_of_units, units-le-flow_of}
 
 -- The first i lines lie on edges, and a cursor stands before the takers of its giver's further lines.

@@ -3,10 +3,5 @@ pub mod Firsts
 pub mod Verdict
 pub mod Check
 pub mod Line
-pub mod Searches
-pub mod Cursor
-pub mod Sums
-pub mod Sides
-pub mod Figures
-pub mod Places
 pub mod Laws
+pub mod inner

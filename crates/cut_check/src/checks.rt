@@ -3,7 +3,7 @@ ghost use Rattle.trust_types.specs.Layout.{accounts, row_certificates, degree, g
 ghost use Rattle.trust_types.specs.Rows.{GivesEachOnce};
 ghost use Rattle.cut_check.specs.Line.{IsAmong};
 ghost use Rattle.cut_check.specs.Check.{IsVerdictOn, ServesMost};
-ghost use Rattle.cut_check.specs.Figures.{AreFigures};
+ghost use Rattle.cut_check.specs.inner.Figures.{AreFigures};
 
 use crate::edges::{first_missing_edge, first_open_edge};
 use crate::proofs::Proof;

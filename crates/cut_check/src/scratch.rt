@@ -17,7 +17,7 @@ pub struct Scratch {
 
 impl Model for Scratch {
     ghost use Rattle.std.specs.Prelude.{ℕ, vec_len};
-    ghost use Rattle.cut_check.specs.Places.{HavePlaces};
+    ghost use Rattle.cut_check.specs.inner.Places.{HavePlaces};
 
     ghost Value = { ℕ };
 

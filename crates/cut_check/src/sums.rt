@@ -7,8 +7,8 @@ ghost use Rattle.trust_types.specs.Flow.{Flow, units_out};
 ghost use Rattle.trust_types.specs.Lines.{flow_of};
 ghost use Rattle.trust_types.specs.Lines.{IsLineAmong, IsLineBefore};
 ghost use Rattle.cut_check.specs.Rules.{IsBalanced, HasRoom, HasService};
-ghost use Rattle.cut_check.specs.Searches.{FindsAccount, FindsNode};
-ghost use Rattle.cut_check.specs.Sums.{AreSums};
+ghost use Rattle.cut_check.specs.inner.Searches.{FindsAccount, FindsNode};
+ghost use Rattle.cut_check.specs.inner.Sums.{AreSums};
 
 use trust_types::{AccountNo, FlowLine, Node};
 

@@ -8,7 +8,7 @@ use Rattle.trust_types.specs.declared.accounts.Node.TheVariants.{Root, Account}
 use Rattle.trust_types.specs.Graph.{Certificates, HasEdge, Walk, IsDistance}
 use Rattle.trust_types.specs.Capacity.{entry, AreCapacities, cap_by}
 use Rattle.trust_types.proofs.Walks.{walk_longer, last_edge, walk_to_root, walk_within, distance_of_root, distance_unique}
-use Rattle.distances.specs.Reached.{IsNew, Reaches, IsSeed, IsCertifiedFrom}
+use Rattle.distances.specs.inner.Reached.{IsNew, Reaches, IsSeed, IsCertifiedFrom}
 use Rattle.distances.proofs.Reaching.{seen_or_not}
 
 -- a table has one entry from its end on, so distances may stop there or later

@@ -12,7 +12,7 @@ use Rattle.trust_types.specs.Levels.{rank, IsGrade}
 use Rattle.trust_types.specs.Graph.{Certificates, HasEdge}
 use Rattle.trust_types.specs.Rows.{GivesEachOnce}
 use Rattle.trust_types.proofs.Walks.{edge_of_cert, cert_of_edge}
-use Rattle.distances.specs.Reached.{Reaches, HasQueueRoom}
+use Rattle.distances.specs.inner.Reached.{Reaches, HasQueueRoom}
 
 -- an account is reached or not
 pub seen_or_not : (out : List ℕ) (b : ℕ) → (0 < slice_index out b) ⊎ (slice_index out b ≡ 0)

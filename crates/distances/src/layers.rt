@@ -6,7 +6,7 @@ ghost use Rattle.trust_types.specs.Graph.{HasEdge};
 ghost use Rattle.trust_types.specs.Levels.{IsGrade, rank};
 ghost use Rattle.trust_types.specs.Rows.{GivesEachOnce};
 ghost use Rattle.trust_types.specs.Capacity.{entry, AreCapacities, cap_by};
-ghost use Rattle.distances.specs.Reached.{Reaches, HasQueueRoom, IsSeed, IsCertifiedFrom};
+ghost use Rattle.distances.specs.inner.Reached.{Reaches, HasQueueRoom, IsSeed, IsCertifiedFrom};
 
 use trust_types::{AccountNo, Caps, Cert, CertGraph, Level};
 

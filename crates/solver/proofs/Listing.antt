@@ -10,7 +10,7 @@ use Rattle.trust_types.specs.declared.flows.Side.{Side}
 use Rattle.trust_types.specs.declared.flows.Side.TheVariants.{Outside, Pass, Full}
 use Rattle.trust_types.specs.Cut.{Sides}
 use Rattle.trust_types.specs.Lines.{place}
-use Rattle.solver.specs.Listing.{ListsBelow, AreSidesBelow, passing_after, filled_after}
+use Rattle.solver.specs.inner.Listing.{ListsBelow, AreSidesBelow, passing_after, filled_after}
 
 pub same_place : (x y : Node) → place x ≡ place y → x ≡ y
 same_place Root Root e = refl

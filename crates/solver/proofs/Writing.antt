@@ -15,7 +15,7 @@ use Rattle.trust_types.specs.Layout.{Rows, accounts, row_certificates, degree, t
 use Rattle.trust_types.specs.Lines.{place, same_node, flow_of, is_before}
 use Rattle.trust_types.proofs.Sums.{part-le-sum_below}
 use Rattle.solver.proofs.Listing.{same_place}
-use Rattle.solver.specs.Writing.{GoesAlong, with_line, is_earlier, IsWritten, AreLinesOf}
+use Rattle.solver.specs.inner.Writing.{GoesAlong, with_line, is_earlier, IsWritten, AreLinesOf}
 
 abbrev early : ℕ → ℕ → ℕ → ℕ → Bool
 early p d at b = nat_lt p at || ((p == at) && nat_lt d b)

@@ -10,8 +10,8 @@ ghost use Rattle.trust_types.specs.Rows.{GivesEachOnce};
 ghost use Rattle.frozen.specs.Revision.{certificates};
 ghost use Rattle.flow_engine.specs.Solved.{IsSolved, flow_in, sides_in};
 ghost use Rattle.roster_form.specs.LevelRosters.{lists_of, AreAmong};
-ghost use Rattle.solver.specs.Listing.{ListsBelow, AreSidesBelow, passing_after, filled_after};
-ghost use Rattle.solver.specs.Writing.{GoesAlong, IsWritten, AreLinesOf, with_line};
+ghost use Rattle.solver.specs.inner.Listing.{ListsBelow, AreSidesBelow, passing_after, filled_after};
+ghost use Rattle.solver.specs.inner.Writing.{GoesAlong, IsWritten, AreLinesOf, with_line};
 
 use flow_engine::Workspace;
 use frozen::Frozen;

@@ -1,7 +1,8 @@
 use Rattle.std.proofs.Common.{ℕ, ◌≡◌, ◌+◌, suc, ap, arith}
 use Rattle.trust_types.specs.Capacity.{cap_by}
 use Rattle.trust_types.specs.Sum.{sum_below}
-use Rattle.attack_bound.specs.Attack.{members_by, added}
+use Rattle.attack_bound.specs.Attack.{members_by}
+use Rattle.attack_bound.specs.inner.Added.{added}
 use Rattle.attack_bound.proofs.attack_bound.Goals as goal
 
 pub loop-number-preserved : goal.loop-number-preserved

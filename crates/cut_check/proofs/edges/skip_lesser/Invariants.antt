@@ -1,5 +1,5 @@
 use Rattle.std.proofs.Common.{◌-◌}
-use Rattle.cut_check.specs.Cursor.{AreLesser}
+use Rattle.cut_check.specs.inner.Cursor.{AreLesser}
 use Rattle.cut_check.proofs.edges.skip_lesser.Given as goal
 
 abbrev pub invariant-loop-passed : goal.invariant-loop-passed

@@ -1,5 +1,5 @@
 use Rattle.std.proofs.Common.{◌≡◌, vec_capacity}
-use Rattle.distances.specs.Reached.{Reaches, HasQueueRoom}
+use Rattle.distances.specs.inner.Reached.{Reaches, HasQueueRoom}
 use Rattle.distances.proofs.Reaching.{IsAmong, IsGivenAt}
 use Rattle.distances.proofs.layers.expand.Given as goal
 

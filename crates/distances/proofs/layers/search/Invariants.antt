@@ -1,6 +1,6 @@
 use Rattle.std.proofs.Common.{ℕ, ◌≡◌, ◌<◌, ◌-◌, ◌^◌, vec_capacity}
 use Rattle.std.specs.Prelude.{min}
-use Rattle.distances.specs.Reached.{HasQueueRoom}
+use Rattle.distances.specs.inner.Reached.{HasQueueRoom}
 use Rattle.distances.proofs.Layered.{IsLayered}
 use Rattle.distances.proofs.layers.search.Given as goal
 

@@ -1,5 +1,5 @@
 use Rattle.flow_engine.specs.Solved.{flow_in}
-use Rattle.solver.specs.Writing.{IsWritten}
+use Rattle.solver.specs.inner.Writing.{IsWritten}
 use Rattle.solver.proofs.reading.add_root_lines.Given as goal
 
 abbrev pub invariant-loop-number : goal.invariant-loop-number

@@ -3,7 +3,7 @@ use Rattle.std.proofs.lemmas.Bool.{eqb-true, eqb-false}
 use Rattle.trust_types.specs.Flow.{Flow, IsServed, is_served, units_in, units_out}
 use Rattle.trust_types.specs.declared.accounts.Node.TheVariants.{Account}
 use Rattle.flow_engine.specs.Solved.{flow_in}
-use Rattle.solver.specs.Listing.{ListsBelow}
+use Rattle.solver.specs.inner.Listing.{ListsBelow}
 use Rattle.solver.proofs.Listing.{lists_more, lists_past}
 use Rattle.solver.proofs.reading.served_accounts.Goals as goal
 use Rattle.solver.proofs.reading.served_accounts.Goals.{then-served+in_ok-push, else-served}

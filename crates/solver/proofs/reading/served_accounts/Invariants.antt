@@ -1,7 +1,7 @@
 use Rattle.std.proofs.Common.{ℕ}
 use Rattle.trust_types.specs.Flow.{IsServed}
 use Rattle.flow_engine.specs.Solved.{flow_in}
-use Rattle.solver.specs.Listing.{ListsBelow}
+use Rattle.solver.specs.inner.Listing.{ListsBelow}
 use Rattle.solver.proofs.reading.served_accounts.Given as goal
 
 abbrev pub invariant-loop-number : goal.invariant-loop-number

@@ -1,11 +1,11 @@
--- The lines of a flow, written one after another.
+-- The lines of a flow, written one after another. The crate's own functions alone speak of it.
 use Rattle.std.specs.Prelude.{ℕ, Bool, ◌≡◌, ◌<◌, ◌==◌, ◌&&◌, ◌||◌, nat_lt, if◌then◌else◌, List, [], ◌∷◌, ◌++◌, All, AllPairs, true}
 use Rattle.trust_types.specs.declared.accounts.Node.{Node}
 use Rattle.trust_types.specs.declared.accounts.Node.TheVariants.{Root, Account}
 use Rattle.trust_types.specs.declared.flows.FlowLine.{FlowLine}
 use Rattle.trust_types.specs.Flow.{Flow}
 use Rattle.trust_types.specs.Layout.{Rows, accounts, degree, taker}
-use Rattle.trust_types.specs.Lines.{place, flow_of, is_before}
+use Rattle.trust_types.specs.Lines.{place, flow_of, IsLineBefore}
 
 -- The flow sends units along the edges from the root to accounts and along the certificates of the rows, and nowhere else.
 pub record GoesAlong (r : Rows) (f : Flow) : Type 0 where
@@ -23,12 +23,12 @@ is_earlier x c at b = nat_lt (place x) at || ((place x == at) && nat_lt c b)
 -- The lines of a flow on all pairs before one.
 pub record IsWritten (f : Flow) (at b : ℕ) (lines : List FlowLine) : Type 0 where
   pub some : All (λ l. 0 < l.units) lines
-  pub rises : AllPairs (λ l m. is_before l m ≡ true) lines
+  pub rises : AllPairs IsLineBefore lines
   pub earlier : All (λ l. is_earlier l.from l.to at b ≡ true) lines
   pub units : (x : Node) (c : ℕ) → flow_of lines x c ≡ (if is_earlier x c at b then f x c else 0)
 
 -- All lines of a flow.
 pub record AreLinesOf (f : Flow) (lines : List FlowLine) : Type 0 where
   pub some : All (λ l. 0 < l.units) lines
-  pub rises : AllPairs (λ l m. is_before l m ≡ true) lines
+  pub rises : AllPairs IsLineBefore lines
   pub units : (x : Node) (c : ℕ) → flow_of lines x c ≡ f x c

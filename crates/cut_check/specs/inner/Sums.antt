@@ -1,4 +1,4 @@
--- The sums of a flow as arrays have them.
+-- The sums of a flow as arrays have them. The crate's own functions alone speak of it.
 use Rattle.std.specs.Prelude.{ℕ, ◌≡◌, ◌<◌, List, length, slice_index}
 use Rattle.trust_types.specs.declared.accounts.Node.TheVariants.{Account}
 use Rattle.trust_types.specs.Flow.{Flow, units_in, units_out}

@@ -1,4 +1,4 @@
--- What a check works out of a proof before it judges it.
+-- What a check works out of a proof before it judges it. The crate's own functions alone speak of it.
 use Rattle.std.specs.Prelude.{ℕ, ◌≡◌, List, length}
 use Rattle.trust_types.specs.declared.accounts.Node.{Node}
 use Rattle.trust_types.specs.declared.accounts.Node.TheVariants.{Root}
@@ -9,8 +9,8 @@ use Rattle.trust_types.specs.Flow.{units_out}
 use Rattle.trust_types.specs.Lines.{flow_of, sides_of}
 use Rattle.cut_check.specs.declared.proofs.Proof.{Proof}
 use Rattle.cut_check.specs.declared.checks.RootFigures.{RootFigures}
-use Rattle.cut_check.specs.Sides.{side_by}
-use Rattle.cut_check.specs.Sums.{AreSums}
+use Rattle.cut_check.specs.inner.Sides.{side_by}
+use Rattle.cut_check.specs.inner.Sums.{AreSums}
 
 -- The root's figures and lists of the accounts': the capacities of the nodes, the sums of the flow, the sides of the cut.
 pub record AreFigures (p : Proof) (root : RootFigures) (ins outs : List ℕ) (at : List Side) (caps : List ℕ) :

@@ -1,4 +1,4 @@
--- The room of a scratch.
+-- The room of a scratch. The crate's own functions alone speak of it.
 use Rattle.std.specs.Prelude.{ℕ, ◌≡◌}
 
 -- Four lists of these lengths have a place for each of n accounts.

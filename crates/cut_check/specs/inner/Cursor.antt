@@ -1,4 +1,4 @@
--- A place among the certificates of one giver, which rise by taker.
+-- A place among the certificates of one giver, which rise by taker. The crate's own functions alone speak of it.
 use Rattle.std.specs.Prelude.{ℕ, ◌<◌, ◌≤◌}
 use Rattle.trust_types.specs.declared.accounts.Node.{Node}
 use Rattle.trust_types.specs.declared.accounts.Node.TheVariants.{Root, Account}

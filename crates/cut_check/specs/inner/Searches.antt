@@ -1,4 +1,4 @@
--- What the searches of a check find: where a rule fails first, or nothing where it holds.
+-- What the searches of a check find: where a rule fails first, or nothing where it holds. The crate's own functions alone speak of it.
 use Rattle.std.specs.Prelude.{ℕ, ◌<◌, ◌≤◌, Option, Some, None}
 use Rattle.trust_types.specs.declared.accounts.Node.{Node}
 use Rattle.trust_types.specs.Lines.{place}

@@ -1,4 +1,4 @@
--- Items found one after another, by a number that each has.
+-- Items found one after another, by a number that each has. The crate's own functions alone speak of it.
 use Rattle.std.specs.Prelude.{ℕ, ◌≡◌, ◌<◌, ◌↔◌, List, [], ◌∷◌, ◌++◌, AllPairs, Contains}
 use Rattle.trust_types.specs.declared.accounts.Node.{Node}
 use Rattle.trust_types.specs.declared.flows.Side.{Side}
