@@ -1,6 +1,4 @@
 mod Trees
 mod Sending
-mod Capacities
-mod Endings
 mod Readings
 mod Results

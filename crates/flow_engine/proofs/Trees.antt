@@ -3,22 +3,26 @@ use Rattle.std.proofs.Common.{ℕ, suc, List, Bool, true, false, ◌+◌, ◌≡
 use Rattle.std.proofs.lemmas.Bool.{cases_eq, cases_lt}
 use Rattle.std.proofs.lemmas.List.{get_or_append_left, get_or_at}
 use Rattle.std.specs.List.{count_by}
+use Rattle.std.specs.Bool.{then_some}
+use Rattle.std.specs.Prelude.{IfNone, nat_lt}
+use Rattle.std.proofs.lemmas.Bool.Decides.{nat_tests}
 use Rattle.std.proofs.lemmas.List.Sums.{sum_by-cons, sum_by-set, count_by-le-length}
-use Rattle.trust_types.specs.declared.accounts.Node.TheVariants.{Account}
-use Rattle.trust_types.specs.Graph.{Certificates}
+use Rattle.trust_types.specs.declared.accounts.Node.TheVariants.{Root, Account}
 use Rattle.frozen.specs.Revision.{certificates}
-use Rattle.split_graph.specs.Split.{supersink, first_half}
-use Rattle.split_graph.specs.Moved.{IsSaturated}
-use Rattle.split_graph.specs.Arcs.{Arcs, AreArcs, arc_count, head_of, tail_of, rest_of, first_of, between}
-use Rattle.split_graph.proofs.Counted.{not_both}
+use Rattle.split_flow.specs.Split.{SplitNode, InHalf, OutHalf, Supersink, source, IsArc}
+use Rattle.split_graph.specs.Numbers.{node_number, node_count}
+use Rattle.split_graph.proofs.Numbers.{node_number-injective, node_numbered}
+use Rattle.split_flow.specs.Moved.{IsSaturated}
+use Rattle.split_graph.specs.Arcs.{Arcs, AreArcs, LeadsTo, arc_count, head_of, tail_of, rest_of, first_of, between}
+use Rattle.split_flow.proofs.Counted.{not_both}
 use Rattle.split_graph.specs.Network.{Network, StandsFor}
-use Rattle.split_graph.proofs.Shapes.{Shape, out_of_sink, no_capacity}
 use Rattle.split_graph.proofs.Units.{between-arc, arc-between}
+use Rattle.split_graph.proofs.Standing.{rests_closed}
 use Rattle.flow_engine.specs.declared.searches.Place.{Place}
-use Rattle.flow_engine.specs.Tree.{Reached, HasRoom, IsTree, IsSearching, IsGrown, IsBegun, IsLookedAt, AreLookedAt, returns_from, IsClosed, AreClosed, LeadsOn, EndsWay, IsWay, no_place, node_at, via_at, back_at, is_seen, reached_count, reach}
+use Rattle.flow_engine.specs.inner.Tree.{Reached, HoldsNodes, IsTree, IsSearching, IsGrown, IsBegun, IsLookedAt, AreLookedAt, returns_from, IsClosed, AreClosed, LeadsOn, EndsWay, IsWay, no_place, node_at, via_at, back_at, is_seen, reached_count, reach}
 
 -- there is room for a node that was not seen
-room_for : (n : ℕ) (a : Arcs) (s : Reached) → HasRoom n s → IsTree a s → (v : ℕ) → v < length s.seen → is_seen s v ≡ false → reached_count s < s.room
+room_for : (n : ℕ) (a : Arcs) (s : Reached) → HoldsNodes n s → IsTree a s → (v : ℕ) → v < length s.seen → is_seen s v ≡ false → reached_count s < s.room
 room_for n a s room tree v below fresh =
     let weight : Bool → ℕ = λ b. cond b 1 0 in
     let more = sum_by-set weight s.seen v true false below in
@@ -26,7 +30,7 @@ room_for n a s room tree v below fresh =
     let most = count_by-le-length (λ b. b) (set s.seen v true) in
     omega (arith, more, at, most, length-set s.seen v true, room.places, tree.number)
 
-room_stays : (n : ℕ) (s : Reached) (node arc at : ℕ) → HasRoom n s → HasRoom n (reach node arc at s)
+room_stays : (n : ℕ) (s : Reached) (node arc at : ℕ) → HoldsNodes n s → HoldsNodes n (reach node arc at s)
 room_stays n s node arc at room = record {
   seen = omega (arith, room.seen, length-set s.seen node true);
   places = omega (arith, room.places, length-set s.seen node true);
@@ -63,9 +67,9 @@ placewise n m P next before last i below =
       | inr other ↦ before i (omega arith)
     ]
 
-grows : (a : Arcs) (s : Reached) (e at : ℕ) → HasRoom a.accounts s → IsTree a s → at < reached_count s → e < arc_count a → tail_of a e ≡ node_at s at → 0 < rest_of a e →
-    head_of a e < supersink a.accounts → is_seen s (head_of a e) ≡ false → IsTree a (reach (head_of a e) e at s)
-grows a s e at room tree placed below from some inside fresh =
+grows : (a : Arcs) (s : Reached) (e at : ℕ) → HoldsNodes a.accounts s → IsTree a s → at < reached_count s → e < arc_count a → tail_of a e ≡ node_at s at → 0 < rest_of a e →
+    head_of a e < node_count a.accounts → 0 < head_of a e → is_seen s (head_of a e) ≡ false → IsTree a (reach (head_of a e) e at s)
+grows a s e at room tree placed below from some inside positive fresh =
     let v : ℕ = head_of a e in
     let p : Place = record { node = v; via = e; back = at } in
     let t : Reached = reach v e at s in
@@ -82,8 +86,9 @@ grows a s e at room tree placed below from some inside fresh =
     let not_before : (i : ℕ) → i < n → node_at s i ≢ v = λ i lt same. not_both (is_seen s v) (ap (is_seen s) (sym same) ∙ tree.marks.marked i lt) fresh in
     record {
       has_source = omega (arith, next);
-      source = node 0 tree.has_source ∙ tree.source;
-      below = placewise n m (λ i. node_at t i < supersink a.accounts) next (λ i lt. omega (arith, node i lt, tree.below i lt)) (omega (arith, node_last));
+      root = node 0 tree.has_source ∙ tree.root;
+      below = placewise n m (λ i. node_at t i < node_count a.accounts) next (λ i lt. omega (arith, node i lt, tree.below i lt)) (omega (arith, node_last));
+      inner = placewise n m (λ i. 0 < node_at t i) next (λ i lt. omega (arith, node i lt, tree.inner i lt)) (omega (arith, node_last));
       earlier = λ i above lt_all. placewise n m (λ j. 0 < j → back_at t j < j) next (λ j lt pos. omega (arith, back j lt, tree.earlier j pos lt)) (λ pos. omega (arith, back_last)) i lt_all above;
       arc = λ i above lt_all. placewise n m (λ j. 0 < j → via_at t j < arc_count a) next (λ j lt pos. omega (arith, via j lt, tree.arc j pos lt)) (λ pos. omega (arith, via_last)) i lt_all above;
       tail = λ i above lt_all. placewise n m (λ j. 0 < j → tail_of a (via_at t j) ≡ node_at t (back_at t j)) next
@@ -170,31 +175,34 @@ abbrev pub step : {a : Arcs} {s : Reached} {at e : ℕ} → AreArcs a → IsSear
 step {a = a} {s = s} {at = at} {e = e} are searching leads = record { a = a; s = s; at = at; e = e; are = are; searching = searching; leads = leads }
 
 -- it doesn't lead to the supersink, to which nothing can be moved from a node that was reached
-pub inside : (t : Step) → head_of t.a t.e < supersink t.a.accounts
+pub inside : (t : Step) → 0 < head_of t.a t.e
 inside t =
-    let last : ℕ = supersink t.a.accounts in
-    let other : head_of t.a t.e ≢ last = λ same.
-    let rest : between t.a (node_at t.s t.at) last ≡ rest_of t.a t.e =
-    ap (λ (u : ℕ). between t.a u last) (sym t.leads.tail) ∙ ap (between t.a (tail_of t.a t.e)) (sym same) ∙ between-arc t.a t.are t.e t.leads.within in
-    absurd (omega (arith, rest, t.searching.closed t.at t.leads.placed, t.leads.passable)) in
-    omega (arith, t.are.head_within t.e t.leads.within)
+    elim (cases_eq (head_of t.a t.e) 0) [
+      | inl same ↦
+          let from = node_numbered (node_at t.s t.at) in
+          let leads : LeadsTo t.a from.0 Supersink t.e = record { within = t.leads.within; tail = t.leads.tail ∙ sym from.1; head = same } in
+          absurd (omega (arith, between-arc t.a t.are from.0 Supersink t.e leads, t.searching.closed t.at t.leads.placed from.0 from.1, t.leads.passable))
+      | inr other ↦ omega arith
+    ]
+
+pub head_below : (t : Step) → head_of t.a t.e < node_count t.a.accounts
+head_below t = t.are.head_within t.e t.leads.within
 
 pub room_to_enter : (t : Step) → reached_count t.s < t.s.room
-room_to_enter t = room_for t.a.accounts t.a t.s t.searching.room t.searching.tree (head_of t.a t.e) (omega (arith, inside t, t.searching.room.seen)) t.leads.fresh
+room_to_enter t = room_for t.a.accounts t.a t.s t.searching.room t.searching.tree (head_of t.a t.e) (omega (arith, head_below t, t.searching.room.seen)) t.leads.fresh
 
 abbrev pub entered : Step → Reached
 entered t = reach (head_of t.a t.e) t.e t.at t.s
 
 tree_after : (t : Step) → IsTree t.a (entered t)
-tree_after t = grows t.a t.s t.e t.at t.searching.room t.searching.tree t.leads.placed t.leads.within t.leads.tail t.leads.passable (inside t) t.leads.fresh
+tree_after t = grows t.a t.s t.e t.at t.searching.room t.searching.tree t.leads.placed t.leads.within t.leads.tail t.leads.passable (head_below t) (inside t) t.leads.fresh
 
 node_entered : (t : Step) → node_at (entered t) (reached_count t.s) ≡ head_of t.a t.e
 node_entered t = ap (λ (q : Place). q.node) (place_now t.s (record { node = head_of t.a t.e; via = t.e; back = t.at }))
 
 closed_before : (t : Step) → AreClosed t.a (entered t) (reached_count t.s)
-closed_before t i lt =
-    ap (λ (v : ℕ). between t.a v (supersink t.a.accounts)) (ap (λ (q : Place). q.node) (place_stays t.s (record { node = head_of t.a t.e; via = t.e; back = t.at }) i lt))
-    ∙ t.searching.closed i lt
+closed_before t i lt u number =
+    t.searching.closed i lt u (number ∙ ap (λ (q : Place). q.node) (place_stays t.s (record { node = head_of t.a t.e; via = t.e; back = t.at }) i lt))
 
 -- a way ends there
 pub way_found : (t : Step) (end : ℕ) → EndsWay t.a (head_of t.a t.e) end → IsWay t.a (entered t) (reached_count t.s) end
@@ -209,7 +217,7 @@ way_found t end ends = record {
 pub goes_on : (t : Step) → IsClosed t.a (head_of t.a t.e) → IsSearching t.a (entered t)
 goes_on t closed =
     let v : ℕ = head_of t.a t.e in
-    let more : IsGrown t.s (entered t) = grown t.s v t.e t.at (omega (arith, inside t, t.searching.room.seen)) in
+    let more : IsGrown t.s (entered t) = grown t.s v t.e t.at (omega (arith, head_below t, t.searching.room.seen)) in
     record {
       room = room_stays t.a.accounts t.s v t.e t.at t.searching.room;
       tree = tree_after t;
@@ -218,7 +226,7 @@ goes_on t closed =
       ahead = λ i lt. looked_on t.a t.s (entered t) (first_of t.a) (returns_from t.a) i more (omega (arith, t.searching.inside)) (t.searching.ahead i lt);
       behind = λ i lt. looked_on t.a t.s (entered t) (returns_from t.a) (λ u. first_of t.a (u + 1)) i more (omega (arith, t.searching.inside, t.searching.order)) (t.searching.behind i lt);
       closed = placewise (reached_count t.s) (reached_count (entered t)) (λ i. IsClosed t.a (node_at (entered t) i)) (one_more t.s v t.e t.at) (closed_before t)
-          (ap (λ (u : ℕ). between t.a u (supersink t.a.accounts)) (node_entered t) ∙ closed);
+          (λ u number. closed u (number ∙ node_entered t));
     }
 
 not_seen : (b : Bool) → (b ≡ true → ⊥) → b ≡ false
@@ -235,8 +243,9 @@ with_behind k s = record { places = s.places; seen = s.seen; room = s.room; ahea
 same_tree : (a : Arcs) (s : Reached) (ahead behind : ℕ) → IsTree a s → IsTree a (record { places = s.places; seen = s.seen; room = s.room; ahead = ahead; behind = behind })
 same_tree a s ahead behind tree = record {
   has_source = tree.has_source;
-  source = tree.source;
+  root = tree.root;
   below = tree.below;
+  inner = tree.inner;
   earlier = tree.earlier;
   arc = tree.arc;
   tail = tree.tail;
@@ -292,14 +301,14 @@ all_of_row a s v e are within from ahead behind =
     ]
 
 -- once no arc is left, nothing can be moved out of the nodes reached
-pub saturated : (a : Arcs) (s : Reached) → AreArcs a → IsSearching a s → reached_count s ≤ s.behind → IsSaturated a.accounts (between a) (is_seen s)
+pub saturated : (a : Arcs) (s : Reached) → AreArcs a → IsSearching a s → reached_count s ≤ s.behind → IsSaturated (between a) (λ u. is_seen s (node_number u))
 saturated a s are searching done = record {
-  source = ap (is_seen s) (sym searching.tree.source) ∙ searching.tree.marks.marked 0 searching.tree.has_source;
-  stops = not_seen (is_seen s (supersink a.accounts)) (λ was. let i = searching.tree.marks.only (supersink a.accounts) was in absurd (omega (arith, searching.tree.below i.0 i.1, i.2)));
+  starts = ap (is_seen s) (sym searching.tree.root) ∙ searching.tree.marks.marked 0 searching.tree.has_source;
+  stops = not_seen (is_seen s 0) (λ was. let i = searching.tree.marks.only 0 was in absurd (omega (arith, searching.tree.inner i.0 i.1, i.2)));
   closed = λ u v was some.
-      let i = searching.tree.marks.only u was in
+      let i = searching.tree.marks.only (node_number u) was in
       let e = arc-between a u v some in
-      ap (is_seen s) (sym e.3) ∙ all_of_row a s (node_at s i.0) e.0 are e.1 (e.2 ∙ sym i.2) (searching.ahead i.0 (omega (arith, i.1, searching.order))) (searching.behind i.0 (omega (arith, i.1))) e.4;
+      ap (is_seen s) (sym e.1.head) ∙ all_of_row a s (node_at s i.0) e.0 are e.1.within (e.1.tail ∙ sym i.2) (searching.ahead i.0 (omega (arith, i.1, searching.order))) (searching.behind i.0 (omega (arith, i.1))) e.2;
 }
 
 none_marked : (seen : List Bool) → ((v : ℕ) → get_or seen v false ≡ false) → count_by (λ b. b) seen ≡ 0
@@ -308,24 +317,29 @@ none_marked (b ∷ seen) none =
     let weight : Bool → ℕ = λ c. cond c 1 0 in
     omega (arith, sum_by-cons weight b seen, ap weight (none 0), none_marked seen (λ v. none (suc v)))
 
+-- the place of the source
+abbrev pub first_place : Place
+first_place = record { node = node_number source; via = 0; back = 0 }
+
 -- a search begins with the mark of the source alone
-pub begins : (old new : Reached) (seen : List Bool) → 0 < length seen → length seen ≡ length old.seen → ((v : ℕ) → get_or seen v false ≡ false) →
-    new.places ≡ no_place ∷ [] → new.seen ≡ set seen 0 true → new.room ≡ old.room → new.ahead ≡ 0 → new.behind ≡ 0 → IsBegun old new
+pub begins : (old new : Reached) (seen : List Bool) → node_number source < length seen → length seen ≡ length old.seen → ((v : ℕ) → get_or seen v false ≡ false) →
+    new.places ≡ first_place ∷ [] → new.seen ≡ set seen (node_number source) true → new.room ≡ old.room → new.ahead ≡ 0 → new.behind ≡ 0 → IsBegun old new
 begins old new seen some long none places marks room ahead behind =
     let weight : Bool → ℕ = λ b. cond b 1 0 in
-    let more = sum_by-set weight seen 0 true false some in
+    let at : ℕ = node_number source in
+    let more = sum_by-set weight seen at true false some in
     record {
       count = ap length places;
-      source = ap (λ (ps : List Place). (get_or ps 0 no_place).node) places;
-      marked = ap (λ (bs : List Bool). get_or bs 0 false) marks ∙ get_or-set_same seen 0 true false some;
+      root = ap (λ (ps : List Place). (get_or ps 0 no_place).node) places;
+      marked = ap (λ (bs : List Bool). get_or bs at false) marks ∙ get_or-set_same seen at true false some;
       only = λ v was.
-          elim (cases_eq v 0) [
+          elim (cases_eq v at) [
             | inl same ↦ same
-            | inr other ↦ not_both (is_seen new v) was (ap (λ (bs : List Bool). get_or bs v false) marks ∙ get_or-set_other seen 0 v true false other ∙ none v)
+            | inr other ↦ not_both (is_seen new v) was (ap (λ (bs : List Bool). get_or bs v false) marks ∙ get_or-set_other seen at v true false other ∙ none v)
           ];
-      number = ap (count_by (λ b. b)) marks ∙ omega (arith, more, none_marked seen none, ap weight (none 0));
+      number = ap (count_by (λ b. b)) marks ∙ omega (arith, more, none_marked seen none, ap weight (none at));
       room = room;
-      long = ap length marks ∙ length-set seen 0 true ∙ long;
+      long = ap length marks ∙ length-set seen at true ∙ long;
       ahead = ahead;
       behind = behind;
     }
@@ -335,8 +349,9 @@ tree_begins a old new begun =
     let first : (i : ℕ) → i < reached_count new → i ≡ 0 = λ i lt. omega (arith, begun.count) in
     record {
       has_source = omega (arith, begun.count);
-      source = begun.source;
-      below = λ i lt. omega (arith, ap (node_at new) (first i lt), begun.source);
+      root = begun.root;
+      below = λ i lt. omega (arith, ap (node_at new) (first i lt), begun.root);
+      inner = λ i lt. omega (arith, ap (node_at new) (first i lt), begun.root);
       earlier = λ i above lt. absurd (omega (arith, begun.count));
       arc = λ i above lt. absurd (omega (arith, begun.count));
       tail = λ i above lt. absurd (omega (arith, begun.count));
@@ -344,31 +359,36 @@ tree_begins a old new begun =
       passable = λ i above lt. absurd (omega (arith, begun.count));
       apart = λ i j before lt. absurd (omega (arith, begun.count));
       marks = record {
-        marked = λ i lt. ap (is_seen new) (ap (node_at new) (first i lt) ∙ begun.source) ∙ begun.marked;
-        only = λ v was. (0, omega (arith, begun.count), begun.source ∙ sym (begun.only v was));
+        marked = λ i lt. ap (is_seen new) (ap (node_at new) (first i lt) ∙ begun.root) ∙ begun.marked;
+        only = λ v was. (0, omega (arith, begun.count), begun.root ∙ sym (begun.only v was));
       };
       number = begun.number ∙ sym begun.count;
     }
 
--- a node that is no account's first half has no arc to the supersink, nor back
-pub no_end : (n : Network) → StandsFor n → (v : ℕ) → v < supersink n.arcs.accounts → ((a : ℕ) → v ≢ first_half (Account a)) → IsClosed n.arcs v
-no_end n stands v below other =
-    let g : Certificates = certificates n.graph in
-    let last : ℕ = supersink n.arcs.accounts in
-    let rests = stands.rests in
-    let there : Shape g.accounts v last → ⊥ = λ shape. elim shape [
-      | inl (k, le, e, f) ↦ absurd (omega arith)
-      | inr (inl (a, lt, e, f)) ↦ other a e
-      | inr (inr (k, b, le, lt, e, f)) ↦ absurd (omega (arith, stands.accounts))
-    ] in
-    let back : Shape g.accounts last v → ⊥ = subst (λ (m : ℕ). Shape g.accounts (supersink m) v → ⊥) (sym stands.accounts) (out_of_sink g.accounts v) in
-    omega (arith, rests.both v last, no_capacity g n.level rests.cap rests.capacity rests.split v last there, no_capacity g n.level rests.cap rests.capacity rests.split last v back)
+-- a split node that is no account's first half has no arc to the supersink, nor back
+end_apart : (n : Network) (s : StandsFor n) (u : SplitNode) → ((a : ℕ) → u ≢ InHalf (Account a)) → (IsArc (certificates s.graph) s.level u Supersink → ⊥) × (IsArc (certificates s.graph) s.level Supersink u → ⊥)
+end_apart n s (InHalf Root) other = (λ no. no, λ no. no)
+end_apart n s (InHalf (Account a)) other = absurd (other a refl)
+end_apart n s (OutHalf x) other = (λ no. no, λ no. no)
+end_apart n s Supersink other = (λ no. no, λ no. no)
 
-pub searching_begins : (n : Network) (old new : Reached) → StandsFor n → IsBegun old new → HasRoom n.arcs.accounts old → IsSearching n.arcs new
+pub no_end : (n : Network) → StandsFor n → (v : ℕ) → ((a : ℕ) → v ≢ node_number (InHalf (Account a))) → IsClosed n.arcs v
+no_end n s v other u number =
+    let apart = end_apart n s u (λ a same. other a (sym number ∙ ap node_number same)) in
+    rests_closed n s u Supersink apart.0 apart.1
+
+-- one from whose arc to the supersink nothing can be moved is closed
+pub spent_end : (n : Network) → StandsFor n → (v a e : ℕ) → v ≡ node_number (InHalf (Account a)) → LeadsTo n.arcs (InHalf (Account a)) Supersink e → rest_of n.arcs e ≡ 0 → IsClosed n.arcs v
+spent_end n s v a e is leads none u number =
+    ap (λ (w : SplitNode). between n.arcs w Supersink) (node_number-injective u (InHalf (Account a)) (number ∙ is))
+    ∙ between-arc n.arcs s.arcs (InHalf (Account a)) Supersink e leads
+    ∙ none
+
+pub searching_begins : (n : Network) (old new : Reached) → StandsFor n → IsBegun old new → HoldsNodes n.arcs.accounts old → IsSearching n.arcs new
 searching_begins n old new stands begun room =
-    let first : (i : ℕ) → i < reached_count new → node_at new i ≡ 0 = λ i lt.
+    let first : (i : ℕ) → i < reached_count new → node_at new i ≡ node_number source = λ i lt.
     let zero : i ≡ 0 = omega (arith, begun.count) in
-    ap (node_at new) zero ∙ begun.source in
+    ap (node_at new) zero ∙ begun.root in
     record {
       room = record { seen = omega (arith, room.seen, begun.long); places = omega (arith, room.places, begun.long, begun.room) };
       tree = tree_begins n.arcs old new begun;
@@ -376,5 +396,13 @@ searching_begins n old new stands begun room =
       order = omega (arith, begun.behind);
       ahead = λ i lt. absurd (omega (arith, begun.ahead));
       behind = λ i lt. absurd (omega (arith, begun.behind));
-      closed = λ i lt. ap (λ (v : ℕ). between n.arcs v (supersink n.arcs.accounts)) (first i lt) ∙ no_end n stands 0 (omega arith) (λ a same. absurd (omega arith));
+      closed = λ i lt. no_end n stands (node_at new i) (λ a same. absurd (omega (arith, first i lt)));
     }
+
+-- an arc is answered only where something rests on it
+pub none_unless : (P : Type 0) (rest e : ℕ) → (rest ≡ 0 → P) → IfNone (then_some (nat_lt 0 rest) e) P
+none_unless P rest e p =
+    (elim (nat_lt 0 rest) as (λ (b : Bool). nat_lt 0 rest ≡ b → IfNone (then_some b e) P) [
+      | true ↦ λ some. tt
+      | false ↦ λ none. p (grind (arith, nat_tests))
+    ]) refl

@@ -1,3 +1,2 @@
 pub mod Solved
-pub mod Tree
-pub mod Held
+pub mod inner

@@ -4,7 +4,5 @@
 mod reading;
 mod searches;
 mod solving;
-#[cfg(test)]
-mod tests;
 
 pub use solving::Workspace;

@@ -1,13 +1,14 @@
 //! Searches through a residual graph for a way to the supersink.
 
 ghost use Rattle.std.specs.Prelude.{ℕ, ◌≡◌, ◌<◌, ◌≤◌, ◌+◌, IfSome, IfNone, IfOk, length, vec_capacity, true, false, slice_index_or};
-ghost use Rattle.split_graph.specs.Split.{supersink};
-ghost use Rattle.split_graph.specs.Moved.{IsMoved, IsMidway, IsSaturated, PassesServed};
-ghost use Rattle.split_graph.specs.Arcs.{AreArcs, arc_count, first_of, tail_of, between};
+ghost use Rattle.split_flow.specs.Split.{source};
+ghost use Rattle.split_flow.specs.Moved.{IsMoved, IsMidway, IsSaturated, PassesServed};
+ghost use Rattle.split_graph.specs.Numbers.{node_number, node_count};
+ghost use Rattle.split_graph.specs.Arcs.{arc_count, first_of, tail_of, between};
 ghost use Rattle.split_graph.specs.Network.{IsSameNetwork, StandsFor};
-ghost use Rattle.flow_engine.specs.Tree.{HasRoom, AreMarked, IsLookedAt, AreLookedAt, returns_from, IsSearching, IsGrown, IsClosed, LeadsOn, EndsWay, IsWay, IsBegun, node_at, via_at, back_at, is_seen, reached_count, reach};
+ghost use Rattle.flow_engine.specs.inner.Tree.{HoldsNodes, AreMarked, IsLookedAt, AreLookedAt, returns_from, IsSearching, IsGrown, IsClosed, LeadsOn, EndsWay, IsWay, IsBegun, node_at, via_at, back_at, is_seen, reached_count, reach};
 
-use split_graph::{Residual, entered_account};
+use split_graph::{Residual, SOURCE, entered_account};
 use std::alloc::{AllocError, Global};
 use std::marker::Model;
 use std::sync::ledger::Ledger;
@@ -41,7 +42,7 @@ pub struct Search {
 
 impl Model for Search {
     ghost use Rattle.std.specs.Prelude.{vec_capacity};
-    ghost use Rattle.flow_engine.specs.Tree.{Reached, AreMarked};
+    ghost use Rattle.flow_engine.specs.inner.Tree.{Reached, AreMarked};
 
     ghost Value = { Reached };
 
@@ -63,7 +64,7 @@ fn clear_marks(places: &[Place], seen: &mut [bool])
 /// The arc from a node to the supersink, if a unit can be moved along it: the node is the first half of an unserved account.
 fn ending<L: Ledger>(residual: &Residual, node: u32, steps: &mut Steps<L>) -> Option<u32>
     requires stands { StandsFor residual.now }
-    requires node { node < supersink residual.now.arcs.accounts }
+    requires node { node < node_count residual.now.arcs.accounts }
     ensures ends { IfSome result (λ arc. EndsWay residual.now.arcs node arc) }
     ensures closed { IfNone result (IsClosed residual.now.arcs node) }
 {
@@ -77,11 +78,11 @@ fn ending<L: Ledger>(residual: &Residual, node: u32, steps: &mut Steps<L>) -> Op
 /// give units back, and may be many. A second half has none: its one arc back, through the node, is looked at with the others.
 fn returns_from(residual: &Residual, node: u32) -> u32
     requires stands { StandsFor residual.now }
-    requires node { node < supersink residual.now.arcs.accounts }
+    requires node { node < node_count residual.now.arcs.accounts }
     ensures { result ≡ returns_from residual.now.arcs node }
 {
     let next = residual.first(node + 1);
-    if node % 2 == 0 {
+    if node % 2 == 1 {
         (residual.first(node) + 2).min(next)
     } else {
         next
@@ -89,8 +90,9 @@ fn returns_from(residual: &Residual, node: u32) -> u32
 }
 
 impl Search {
-    /// A search with room for so many split nodes.
+    /// A search with room for so many split nodes, which has reached none.
     pub fn reserve(alloc: Global, nodes: usize) -> Result<Search, AllocError>
+        ensures none { IfOk result (λ search. (v : ℕ) → is_seen search v ≡ false) }
         ensures seen { IfOk result (λ search. length search.seen ≡ nodes) }
         ensures room { IfOk result (λ search. search.room ≡ nodes) }
     {
@@ -143,15 +145,15 @@ impl Search {
 
     /// Begins a search at the source.
     fn begin(&mut self)
-        requires seen { 0 < length self.old.seen }
+        requires seen { node_number source < length self.old.seen }
         requires room { 0 < self.old.room }
         ensures { IsBegun self.old self.new }
     {
         clear_marks(&self.places, &mut self.seen);
-        self.seen[0] = true;
+        self.seen[SOURCE as usize] = true;
         self.places.clear();
         self.places.push_reserved(Place {
-            node: 0,
+            node: SOURCE,
             via: 0,
             back: 0,
         });
@@ -300,11 +302,11 @@ impl Search {
     /// back are looked at only where no others are left. Where there is no way, all that can be reached was reached.
     pub fn search<L: Ledger>(&mut self, residual: &Residual, steps: &mut Steps<L>) -> Option<Way>
         requires stands { StandsFor residual.now }
-        requires room { HasRoom residual.now.arcs.accounts self.old }
+        requires room { HoldsNodes residual.now.arcs.accounts self.old }
         ensures long { length self.new.seen ≡ length self.old.seen }
         ensures places { self.new.room ≡ self.old.room }
         ensures way { IfSome result (λ way. IsWay residual.now.arcs self.new way.at way.arc) }
-        ensures none { IfNone result (IsSaturated residual.now.arcs.accounts (between residual.now.arcs) (is_seen self.new)) }
+        ensures none { IfNone result (IsSaturated (between residual.now.arcs) (λ u. is_seen self.new (node_number u))) }
     {
         self.begin();
         while self.behind < self.count() {
@@ -321,12 +323,12 @@ impl Search {
 
     /// Moves one unit along the way that was found, its last arc first.
     pub fn send(&self, residual: &mut Residual, way: Way)
-        requires arcs { AreArcs residual.old.arcs }
+        requires stands { StandsFor residual.old }
         requires way { IsWay residual.old.arcs self.now way.at way.arc }
-        requires served { PassesServed residual.old.arcs.accounts (between residual.old.arcs) }
+        requires served { PassesServed (between residual.old.arcs) }
         ensures same { IsSameNetwork residual.old residual.new }
-        ensures moved { IsMidway residual.old.arcs.accounts (between residual.old.arcs) (between residual.new.arcs) 0 }
-        ensures served { PassesServed residual.old.arcs.accounts (between residual.new.arcs) }
+        ensures moved { IsMidway residual.old.arcs.accounts (between residual.old.arcs) (between residual.new.arcs) source }
+        ensures served { PassesServed (between residual.new.arcs) }
         ensures stands { StandsFor residual.new }
     {
         residual.push(way.arc);
@@ -340,14 +342,14 @@ impl Search {
     /// Sends units to the supersink, one at a time, until none can be sent. Then nothing can be moved out of the nodes reached last.
     pub fn send_all<L: Ledger>(&mut self, residual: &mut Residual, steps: &mut Steps<L>)
         requires stands { StandsFor residual.old }
-        requires room { HasRoom residual.old.arcs.accounts self.old }
-        requires served { PassesServed residual.old.arcs.accounts (between residual.old.arcs) }
+        requires room { HoldsNodes residual.old.arcs.accounts self.old }
+        requires served { PassesServed (between residual.old.arcs) }
         ensures long { length self.new.seen ≡ length self.old.seen }
         ensures places { self.new.room ≡ self.old.room }
         ensures same { IsSameNetwork residual.old residual.new }
         ensures moved { IsMoved residual.old.arcs.accounts (between residual.old.arcs) (between residual.new.arcs) }
-        ensures served { PassesServed residual.old.arcs.accounts (between residual.new.arcs) }
-        ensures saturated { IsSaturated residual.old.arcs.accounts (between residual.new.arcs) (is_seen self.new) }
+        ensures served { PassesServed (between residual.new.arcs) }
+        ensures saturated { IsSaturated (between residual.new.arcs) (λ u. is_seen self.new (node_number u)) }
         ensures stands { StandsFor residual.new }
     {
         while let Some(way) = self.search(residual, steps) {

@@ -1,29 +1,33 @@
 //! The greatest flow of a site at a level.
 
-ghost use Rattle.std.specs.Prelude.{ℕ, ◌≡◌, ◌<◌, ◌≤◌, IfOk, length};
+ghost use Rattle.std.specs.Prelude.{ℕ, ◌≡◌, ◌<◌, ◌≤◌, IfOk, length, Some, None};
+ghost use Rattle.trust_types.specs.declared.accounts.Node.{Node};
 ghost use Rattle.trust_types.specs.declared.accounts.Node.TheVariants.{Root, Account};
+ghost use Rattle.trust_types.specs.declared.flows.Side.TheVariants.{Outside};
 ghost use Rattle.trust_types.specs.Levels.{IsGrade};
+ghost use Rattle.trust_types.specs.Capacity.{entry, AreCapacities, cap_by};
 ghost use Rattle.trust_types.specs.Flow.{is_served};
-ghost use Rattle.trust_types.specs.Layout.{degree, taker};
+ghost use Rattle.trust_types.specs.Layout.{accounts, degree, taker};
 ghost use Rattle.frozen.specs.Revision.{certificates};
-ghost use Rattle.split_graph.specs.Split.{IsNode};
+ghost use Rattle.split_flow.specs.Split.{IsNode};
+ghost use Rattle.split_flow.specs.Solved.{IsSolved};
 ghost use Rattle.split_graph.specs.Arcs.{IsSameGraph};
-ghost use Rattle.split_graph.specs.Network.{Fits, nothing};
-ghost use Rattle.flow_engine.specs.Solved.{IsSolved, flow_in, sides_in};
-ghost use Rattle.flow_engine.specs.Held.{IsLoaded, IsReadable, IsSolvedIn};
-ghost use Rattle.flow_engine.specs.Tree.{HasRoom};
+ghost use Rattle.split_graph.specs.Network.{Fits, IsLaidFor, rows_of};
+ghost use Rattle.flow_engine.specs.Solved.{flow_in, sides_in};
+ghost use Rattle.flow_engine.specs.inner.Held.{IsLoaded, IsReadable};
+ghost use Rattle.flow_engine.specs.inner.Tree.{HoldsNodes};
 
 use crate::reading::{read_root_units, units_along};
 use crate::searches::Search;
 use distances::{Queue, capacities};
 use frozen::Frozen;
-use split_graph::{Residual, first_half, second_half};
+use split_graph::{Residual, in_half, out_half};
 use std::alloc::Global;
 use std::marker::Model;
 use std::sync::ledger::Ledger;
 use trust_types::{AccountNo, CertGraph, Level, NoMemory, Node, Side, Steps};
 
-/// Loads the split graph of a site at a level. The list has a place for the capacity of each account.
+/// Loads a level of a site whose arcs are laid out. The list has a place for the capacity of each account.
 fn load(
     frozen: &Frozen,
     level: Level,
@@ -32,13 +36,12 @@ fn load(
     residual: &mut Residual,
 )
     requires grade { IsGrade level }
-    requires room { Fits frozen.now residual.old.room }
+    requires laid { IsLaidFor frozen.now residual.old }
     requires places { (certificates frozen.now).accounts ≤ length places.old }
     requires queue { (certificates frozen.now).accounts ≤ queue.old }
     ensures room { residual.new.room ≡ residual.old.room }
-    ensures graph { residual.new.graph ≡ frozen.now }
-    ensures level { residual.new.level ≡ level }
-    ensures loaded { IsLoaded residual.new }
+    ensures arcs { IsSameGraph residual.old.arcs residual.new.arcs }
+    ensures loaded { IsLoaded frozen.now level residual.new }
     ensures queue { queue.new ≡ queue.old }
 {
     let capacities_of = &mut places[..frozen.accounts() as usize];
@@ -46,51 +49,27 @@ fn load(
     residual.load(frozen, level, capacities_of);
 }
 
-/// Loads another level of the site that is loaded.
-fn reload(
-    frozen: &Frozen,
-    level: Level,
-    places: &mut [u32],
-    queue: &mut Queue,
-    residual: &mut Residual,
-)
-    requires grade { IsGrade level }
-    requires graph { residual.old.graph ≡ frozen.now }
-    requires places { (certificates frozen.now).accounts ≤ length places.old }
-    requires queue { (certificates frozen.now).accounts ≤ queue.old }
-    ensures room { residual.new.room ≡ residual.old.room }
-    ensures graph { residual.new.graph ≡ frozen.now }
-    ensures level { residual.new.level ≡ level }
-    ensures arcs { IsSameGraph residual.old.arcs residual.new.arcs }
-    ensures loaded { IsLoaded residual.new }
-    ensures queue { queue.new ≡ queue.old }
-{
-    let capacities_of = &mut places[..frozen.accounts() as usize];
-    capacities(frozen, level, frozen.caps(), capacities_of, queue);
-    residual.reload(frozen, level, capacities_of);
-}
-
 /// Finds a greatest flow through what was loaded and a cut of equal value, and writes the units from the root.
 fn solve_loaded<L: Ledger>(
     frozen: &Frozen,
+    level: Level,
     residual: &mut Residual,
     search: &mut Search,
     root_units: &mut [u32],
     steps: &mut Steps<L>,
 )
-    requires graph { residual.old.graph ≡ frozen.now }
     requires fits { Fits frozen.now residual.old.room }
-    requires loaded { IsLoaded residual.old }
-    requires search { HasRoom residual.old.arcs.accounts search.old }
+    requires loaded { IsLoaded frozen.now level residual.old }
+    requires search { HoldsNodes residual.old.arcs.accounts search.old }
     requires units { (certificates frozen.now).accounts ≤ length root_units.old }
     ensures room { residual.new.room ≡ residual.old.room }
-    ensures graph { residual.new.graph ≡ frozen.now }
-    ensures level { residual.new.level ≡ residual.old.level }
+    ensures graph { residual.new.graph ≡ Some frozen.now }
+    ensures level { residual.new.level ≡ Some level }
     ensures arcs { IsSameGraph residual.old.arcs residual.new.arcs }
     ensures long { length search.new.seen ≡ length search.old.seen }
     ensures places { search.new.room ≡ search.old.room }
     ensures readable { IsReadable residual.new root_units.new }
-    ensures solved { IsSolvedIn (record { network = residual.new; reached = search.new.seen }) }
+    ensures solved { IsSolved (certificates frozen.now) level frozen.now.caps (flow_in (record { network = residual.new; reached = search.new.seen })) (sides_in (record { network = residual.new; reached = search.new.seen })) }
 {
     search.send_all(residual, steps);
     read_root_units(residual, frozen, frozen.accounts(), root_units);
@@ -108,25 +87,27 @@ pub struct Workspace {
 }
 
 impl Model for Workspace {
+    ghost use Rattle.std.specs.Option.{ForSome};
     ghost use Rattle.flow_engine.specs.Solved.{Solved};
-    ghost use Rattle.flow_engine.specs.Held.{IsReserved, IsReadable};
+    ghost use Rattle.flow_engine.specs.inner.Held.{IsReserved, IsReadable};
 
     ghost Value = { Solved };
 
     ghost view = { λ w. record { network = w.residual; reached = w.search.seen } };
 
-    ghost invariant = { λ w. IsReserved w.residual.room.accounts w.search w.queue w.capacities.items w.root_units.items × IsReadable w.residual w.root_units.items };
+    ghost invariant = { λ w. IsReserved w.residual.room.accounts w.search w.queue w.capacities.items w.root_units.items × ForSome w.residual.graph (λ _. IsReadable w.residual w.root_units.items) };
 }
 
 impl Workspace {
-    /// Room to solve sites with at most so many accounts and certificates. All memory is taken here. Until one is solved it stands for a
-    /// site without accounts.
+    /// Room to solve sites with at most so many accounts and certificates. All memory is taken here. Nothing is solved yet: there is no
+    /// flow, and no node is in the cut.
     ///
     /// # Errors
     /// [`NoMemory`] where that memory can't be had.
     pub fn reserve(alloc: Global, accounts: u32, certs: u32) -> Result<Workspace, NoMemory>
         ensures room { IfOk result (λ workspace. workspace.network.room ≡ record { accounts = accounts; certs = certs }) }
-        ensures empty { IfOk result (λ workspace. workspace.network.graph ≡ nothing) }
+        ensures empty { IfOk result (λ workspace. workspace.network.graph ≡ None) }
+        ensures unreached { IfOk result (λ workspace. (x : Node) → sides_in workspace x ≡ Outside) }
     {
         Ok(Workspace {
             residual: Residual::reserve(alloc, accounts, certs)?,
@@ -144,10 +125,11 @@ impl Workspace {
         requires grade { IsGrade level }
         requires room { Fits frozen.now self.old.network.room }
         ensures room { self.new.network.room ≡ self.old.network.room }
-        ensures graph { self.new.network.graph ≡ frozen.now }
-        ensures level { self.new.network.level ≡ level }
+        ensures graph { self.new.network.graph ≡ Some frozen.now }
+        ensures level { self.new.network.level ≡ Some level }
         ensures solved { IsSolved (certificates frozen.now) level frozen.now.caps (flow_in self.new) (sides_in self.new) }
     {
+        self.residual.lay_out(frozen);
         load(
             frozen,
             level,
@@ -157,6 +139,7 @@ impl Workspace {
         );
         solve_loaded(
             frozen,
+            level,
             &mut self.residual,
             &mut self.search,
             &mut self.root_units,
@@ -170,14 +153,14 @@ impl Workspace {
     /// It takes no memory. `steps` counts the arcs that it looks at.
     pub fn solve_again<L: Ledger>(&mut self, frozen: &Frozen, level: Level, steps: &mut Steps<L>)
         requires grade { IsGrade level }
-        requires graph { self.old.network.graph ≡ frozen.now }
+        requires graph { self.old.network.graph ≡ Some frozen.now }
         ensures room { self.new.network.room ≡ self.old.network.room }
-        ensures graph { self.new.network.graph ≡ frozen.now }
-        ensures level { self.new.network.level ≡ level }
+        ensures graph { self.new.network.graph ≡ Some frozen.now }
+        ensures level { self.new.network.level ≡ Some level }
         ensures arcs { IsSameGraph self.old.network.arcs self.new.network.arcs }
         ensures solved { IsSolved (certificates frozen.now) level frozen.now.caps (flow_in self.new) (sides_in self.new) }
     {
-        reload(
+        load(
             frozen,
             level,
             &mut self.capacities,
@@ -186,6 +169,7 @@ impl Workspace {
         );
         solve_loaded(
             frozen,
+            level,
             &mut self.residual,
             &mut self.search,
             &mut self.root_units,
@@ -195,24 +179,24 @@ impl Workspace {
 
     /// Whether the flow serves an account.
     pub fn served(&self, account: AccountNo) -> bool
-        requires { account < (certificates self.now.network.graph).accounts }
-        ensures { result ≡ is_served (certificates self.now.network.graph).accounts (flow_in self.now) account }
+        requires { account < accounts (rows_of self.now.network) }
+        ensures { result ≡ is_served (accounts (rows_of self.now.network)) (flow_in self.now) account }
     {
         self.residual.rest(self.residual.end_arc(account)) == 0
     }
 
     /// The units that the flow sends along the i-th certificate that an account gives, counted from 0.
     pub fn units(&self, account: AccountNo, i: u32) -> u32
-        requires account { account < (certificates self.now.network.graph).accounts }
-        requires within { i < degree self.now.network.graph.rows account }
-        ensures { result ≡ flow_in self.now (Account account) (taker self.now.network.graph.rows account i) }
+        requires account { account < accounts (rows_of self.now.network) }
+        requires within { i < degree (rows_of self.now.network) account }
+        ensures { result ≡ flow_in self.now (Account account) (taker (rows_of self.now.network) account i) }
     {
         units_along(&self.residual, Node::Account(account), i)
     }
 
     /// The units that the flow sends from the root to an account.
     pub fn root_units(&self, account: AccountNo) -> u32
-        requires { account < (certificates self.now.network.graph).accounts }
+        requires { account < accounts (rows_of self.now.network) }
         ensures { result ≡ flow_in self.now Root account }
     {
         self.root_units[account.index()]
@@ -220,13 +204,13 @@ impl Workspace {
 
     /// The side of the cut on which a node lies.
     pub fn side(&self, node: Node) -> Side
-        requires { IsNode (certificates self.now.network.graph).accounts node }
+        requires { IsNode (accounts (rows_of self.now.network)) node }
         ensures { result ≡ sides_in self.now node }
     {
-        if !self.search.has(first_half(&node)) {
+        if !self.search.has(in_half(&node)) {
             return Side::Outside;
         }
-        if self.search.has(second_half(&node)) {
+        if self.search.has(out_half(&node)) {
             return Side::Pass;
         }
         Side::Full

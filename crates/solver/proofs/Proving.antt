@@ -19,7 +19,7 @@ use Rattle.trust_types.specs.Layout.{Rows, row_certificates, degree, given}
 use Rattle.trust_types.specs.Proven.{Lists, AreInOrder, Proves, IsProven}
 use Rattle.trust_types.proofs.Sums.{sum_below-eq}
 use Rattle.trust_types.proofs.Walks.{edge_within, cert_of_edge}
-use Rattle.flow_engine.specs.Solved.{IsSolved}
+use Rattle.split_flow.specs.Solved.{IsSolved}
 use Rattle.solver.specs.inner.Listing.{ListsBelow, AreSidesBelow}
 use Rattle.solver.specs.inner.Writing.{GoesAlong, AreLinesOf}
 use Rattle.solver.proofs.Listing.{same_place, increasing}

@@ -4,11 +4,13 @@ ghost use Rattle.std.specs.Prelude.{◌≡◌, ◌<◌, ◌+◌, IfOk};
 ghost use Rattle.trust_types.specs.Levels.{IsGrade};
 ghost use Rattle.trust_types.specs.Flow.{IsServed};
 ghost use Rattle.trust_types.specs.Roster.{ServesConduits};
-ghost use Rattle.trust_types.specs.Layout.{degree, given};
+ghost use Rattle.trust_types.specs.Layout.{accounts as account_count, degree, given};
 ghost use Rattle.trust_types.specs.Proven.{IsProven};
 ghost use Rattle.trust_types.specs.Rows.{GivesEachOnce};
 ghost use Rattle.frozen.specs.Revision.{certificates};
-ghost use Rattle.flow_engine.specs.Solved.{IsSolved, flow_in, sides_in};
+ghost use Rattle.split_flow.specs.Solved.{IsSolved};
+ghost use Rattle.split_graph.specs.Network.{rows_of};
+ghost use Rattle.flow_engine.specs.Solved.{flow_in, sides_in};
 ghost use Rattle.roster_form.specs.LevelRosters.{lists_of, AreAmong};
 ghost use Rattle.solver.specs.inner.Listing.{ListsBelow, AreSidesBelow, passing_after, filled_after};
 ghost use Rattle.solver.specs.inner.Writing.{GoesAlong, IsWritten, AreLinesOf, with_line};
@@ -25,7 +27,7 @@ fn served_accounts(
     workspace: &Workspace,
     accounts: u32,
 ) -> Result<Vec<AccountNo>, NoMemory>
-    requires { accounts ≡ (certificates workspace.now.network.graph).accounts }
+    requires { accounts ≡ account_count (rows_of workspace.now.network) }
     ensures { IfOk result (λ served. ListsBelow (λ a. a) (IsServed accounts (flow_in workspace.now)) accounts served.items) }
 {
     let mut served = Vec::new(alloc);
@@ -59,7 +61,7 @@ fn add_root_lines(
     workspace: &Workspace,
     accounts: u32,
 ) -> Result<(), NoMemory>
-    requires accounts { accounts ≡ (certificates workspace.now.network.graph).accounts }
+    requires accounts { accounts ≡ account_count (rows_of workspace.now.network) }
     requires written { IsWritten (flow_in workspace.now) 0 0 lines.old.items }
     ensures { IfOk result (λ _. IsWritten (flow_in workspace.now) 0 accounts lines.new.items) }
 {
@@ -77,7 +79,7 @@ fn add_lines_from(
     frozen: &Frozen,
     giver: AccountNo,
 ) -> Result<(), NoMemory>
-    requires graph { workspace.now.network.graph ≡ frozen.now }
+    requires rows { rows_of workspace.now.network ≡ frozen.now.rows }
     requires readers { GivesEachOnce (certificates frozen.now) (degree frozen.now.rows) (given frozen.now.rows) }
     requires goes_along { GoesAlong frozen.now.rows (flow_in workspace.now) }
     requires conduits { ServesConduits (certificates frozen.now).accounts (flow_in workspace.now) }
@@ -101,7 +103,7 @@ fn flow_lines(
     workspace: &Workspace,
     frozen: &Frozen,
 ) -> Result<Vec<FlowLine>, NoMemory>
-    requires graph { workspace.now.network.graph ≡ frozen.now }
+    requires rows { rows_of workspace.now.network ≡ frozen.now.rows }
     requires goes_along { GoesAlong frozen.now.rows (flow_in workspace.now) }
     requires conduits { ServesConduits (certificates frozen.now).accounts (flow_in workspace.now) }
     ensures { IfOk result (λ lines. AreLinesOf (flow_in workspace.now) lines.items) }
@@ -139,7 +141,7 @@ impl CutNodes {
 
 /// The nodes of the cut, the root first.
 fn cut_nodes(alloc: Global, workspace: &Workspace, accounts: u32) -> Result<CutNodes, NoMemory>
-    requires { accounts ≡ (certificates workspace.now.network.graph).accounts }
+    requires { accounts ≡ account_count (rows_of workspace.now.network) }
     ensures { IfOk result (λ cut. AreSidesBelow (sides_in workspace.now) (accounts + 1) cut.pass.items cut.full.items) }
 {
     let mut cut = CutNodes {
@@ -164,7 +166,7 @@ pub fn roster_of(
     level: Level,
 ) -> Result<LevelRoster, NoMemory>
     requires grade { IsGrade level }
-    requires graph { workspace.now.network.graph ≡ frozen.now }
+    requires rows { rows_of workspace.now.network ≡ frozen.now.rows }
     requires solved { IsSolved (certificates frozen.now) level frozen.now.caps (flow_in workspace.now) (sides_in workspace.now) }
     ensures level { IfOk result (λ roster. roster.level ≡ level) }
     ensures proven { IfOk result (λ roster. IsProven (certificates frozen.now) level frozen.now.caps (lists_of roster)) }

@@ -1,6 +1,6 @@
 //! Rosters of a frozen graph, solved in a workspace of their own.
 
-ghost use Rattle.std.specs.Prelude.{◌≡◌, ◌<◌, IfOk, length};
+ghost use Rattle.std.specs.Prelude.{◌≡◌, ◌<◌, IfOk, length, Some};
 ghost use Rattle.trust_types.specs.Levels.{IsGrade};
 ghost use Rattle.frozen.specs.Revision.{certificates};
 ghost use Rattle.split_graph.specs.Network.{Fits};
@@ -35,7 +35,7 @@ fn solve_level<L: Ledger>(
 ) -> Result<LevelRoster, NoMemory>
     requires grade { IsGrade level }
     requires room { Fits frozen.now workspace.old.network.room }
-    ensures graph { workspace.new.network.graph ≡ frozen.now }
+    ensures graph { workspace.new.network.graph ≡ Some frozen.now }
     ensures roster { IfOk result (λ roster. IsRosterFor frozen.now level roster) }
 {
     workspace.solve(frozen, level, steps);
@@ -51,8 +51,8 @@ fn solve_level_again<L: Ledger>(
     steps: &mut Steps<L>,
 ) -> Result<LevelRoster, NoMemory>
     requires grade { IsGrade level }
-    requires graph { workspace.old.network.graph ≡ frozen.now }
-    ensures graph { workspace.new.network.graph ≡ frozen.now }
+    requires graph { workspace.old.network.graph ≡ Some frozen.now }
+    ensures graph { workspace.new.network.graph ≡ Some frozen.now }
     ensures roster { IfOk result (λ roster. IsRosterFor frozen.now level roster) }
 {
     workspace.solve_again(frozen, level, steps);

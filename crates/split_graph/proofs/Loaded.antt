@@ -1,23 +1,19 @@
 -- The arcs that were laid out are those of the split graph, in their places.
-use Rattle.std.proofs.Common.{ℕ, ◌+◌, ◌*◌, ◌^◌, ◌≡◌, ◌≤◌, ◌<◌, inl, inr, refl, arith, ap, sym, subst, ◌∙◌, List, [], ◌∷◌, length, get_or}
+use Rattle.std.proofs.Common.{ℕ, ◌+◌, ◌*◌, ◌^◌, ◌≡◌, ◌≤◌, ◌<◌, arith, ap, sym, subst, ◌∙◌, List, length, get_or}
 use Rattle.std.proofs.lemmas.List.{length-replicate}
-use Rattle.trust_types.specs.declared.levels.Level.{Level}
 use Rattle.trust_types.specs.declared.accounts.Node.{Node}
 use Rattle.trust_types.specs.declared.accounts.Node.TheVariants.{Root, Account}
-use Rattle.trust_types.specs.Capacity.{AreCapacities, cap_by}
-use Rattle.trust_types.specs.Tables.{IsTable}
 use Rattle.trust_types.specs.Rows.{GivesEachOnce}
 use Rattle.trust_types.specs.Layout.{degree, taker, given}
 use Rattle.frozen.specs.Revision.{Revision, certificates}
 use Rattle.split_graph.specs.declared.split_arcs.SplitArc.{SplitArc}
-use Rattle.split_graph.specs.Split.{first_half, second_half, node_count, IsNode}
-use Rattle.split_graph.specs.Arcs.{AreArcs, LeadsTo}
-use Rattle.split_graph.specs.SplitArcs.{through_arc, edge_arc, end_arc, split_arcs}
-use Rattle.split_graph.specs.Layout.{Table, arc_at, ends_at, Joins, AreSplitArcs, IsLaidOut, IsArcAt, ArePlaced}
-use Rattle.split_graph.specs.Network.{AreInPlace, nothing, seeds_before, IsTaker}
-use Rattle.split_graph.specs.Held.{arcs_in, blank}
-use Rattle.split_graph.proofs.Filled.{IsCapacityAt, AreFilled}
-use Rattle.trust_types.proofs.Walks.{distance_of_root, walk_within}
+use Rattle.split_flow.specs.Split.{SplitNode, InHalf, OutHalf, Supersink, IsNode}
+use Rattle.split_graph.specs.Numbers.{node_number, node_count}
+use Rattle.split_graph.specs.Arcs.{blank, AreArcs, LeadsTo}
+use Rattle.split_graph.specs.inner.SplitArcs.{arc_from, through_arc, split_arcs}
+use Rattle.split_graph.specs.inner.Layout.{Table, arc_at, ends_at, Joins, AreSplitArcs, IsLaidOut, IsArcAt, ArePlaced}
+use Rattle.split_graph.specs.Network.{AreInPlace, seeds_before, IsTaker}
+use Rattle.split_graph.specs.inner.Held.{arcs_in}
 use Rattle.split_graph.proofs.Places.{first_more, place_of, placed_before}
 use Rattle.split_graph.proofs.Counts.{places-all}
 use Rattle.split_graph.proofs.Lists.{StandsAt, all_ends}
@@ -85,17 +81,18 @@ are_arcs b =
     }
 
 -- where an arc of the list is
-leads_to : (b : Built) (x : SplitArc) (i : ℕ) → x.from < node_count b.n → StandsAt b.arcs x i → LeadsTo (arcs_in b.n b.t) x.from x.to (get_or b.t.first x.from 0 + i)
-leads_to b x i below at =
+leads_to : (b : Built) (u v : SplitNode) (i : ℕ) → node_number u < node_count b.n → StandsAt b.arcs (arc_from u v) i → LeadsTo (arcs_in b.n b.t) u v (get_or b.t.first (node_number u) 0 + i)
+leads_to b u v i below at =
     let first : List ℕ = b.t.first in
+    let from : ℕ = node_number u in
     let are : AreArcs (blank (arcs_in b.n b.t)) = are_arcs b in
-    let from_is : (arc_at b.arcs at.number).from ≡ x.from = ap (λ (y : SplitArc). y.from) at.is in
-    let before : get_or first x.from 0 + i < get_or first (x.from + 1) 0 = placed_before (node_count b.n) b.arcs first b.laid at.number x.from i at.within below from_is at.before in
-    let place : get_or first (arc_at b.arcs at.number).from 0 + ends_at b.arcs at.number (arc_at b.arcs at.number).from ≡ get_or first x.from 0 + i =
-    ap (λ (k : ℕ). get_or first k 0 + ends_at b.arcs at.number k) from_is ∙ ap (λ (k : ℕ). get_or first x.from 0 + k) at.before in
+    let from_is : (arc_at b.arcs at.number).from ≡ from = ap (λ (y : SplitArc). y.from) at.is in
+    let before : get_or first from 0 + i < get_or first (from + 1) 0 = placed_before (node_count b.n) b.arcs first b.laid at.number from i at.within below from_is at.before in
+    let place : get_or first (arc_at b.arcs at.number).from 0 + ends_at b.arcs at.number (arc_at b.arcs at.number).from ≡ get_or first from 0 + i =
+    ap (λ (k : ℕ). get_or first k 0 + ends_at b.arcs at.number k) from_is ∙ ap (λ (k : ℕ). get_or first from 0 + k) at.before in
     record {
-      within = omega (arith, before, are.first_within (x.from + 1) (omega arith));
-      tail = are.leaves x.from (get_or first x.from 0 + i) below (omega arith) before;
+      within = omega (arith, before, are.first_within (from + 1) (omega arith));
+      tail = are.leaves from (get_or first from 0 + i) below (omega arith) before;
       head = ap (λ (k : ℕ). get_or b.t.head k 0) (sym place) ∙ b.placed.at at.number at.within ∙ ap (λ (y : SplitArc). y.to) at.is;
     }
 
@@ -129,75 +126,32 @@ built l = record { n = l.n; arcs = l.arcs; t = l.t; fits = l.fits; few = l.few; 
 pub laid_arcs : (l : Loading) → AreArcs (blank (arcs_in l.n l.t))
 laid_arcs l = are_arcs (built l)
 
-leads_at : (l : Loading) (x : SplitArc) (i : ℕ) → x.from < node_count (certificates l.graph).accounts → StandsAt (listed (listing l)) x i → LeadsTo (arcs_in l.n l.t) x.from x.to (get_or l.t.first x.from 0 + i)
-leads_at l x i below at = leads_to (built l) x i (omega (arith, below, l.size)) (subst (λ (arcs : List SplitArc). StandsAt arcs x i) (sym l.listed) at)
+leads_at : (l : Loading) (u v : SplitNode) (i : ℕ) → node_number u < node_count (certificates l.graph).accounts → StandsAt (listed (listing l)) (arc_from u v) i → LeadsTo (arcs_in l.n l.t) u v (get_or l.t.first (node_number u) 0 + i)
+leads_at l u v i below at = leads_to (built l) u v i (omega (arith, below, l.size)) (subst (λ (arcs : List SplitArc). StandsAt arcs (arc_from u v) i) (sym l.listed) at)
 
-leads_first : (l : Loading) (x : SplitArc) → x.from < node_count (certificates l.graph).accounts → StandsAt (listed (listing l)) x 0 → LeadsTo (arcs_in l.n l.t) x.from x.to (get_or l.t.first x.from 0)
-leads_first l x below at =
-    let e : get_or l.t.first x.from 0 + 0 ≡ get_or l.t.first x.from 0 = omega arith in
-    subst (λ (i : ℕ). LeadsTo (arcs_in l.n l.t) x.from x.to i) e (leads_at l x 0 below at)
+through_place : (l : Loading) (x : Node) → node_number (InHalf x) < node_count (certificates l.graph).accounts → StandsAt (listed (listing l)) (through_arc x) 0 → LeadsTo (arcs_in l.n l.t) (InHalf x) (OutHalf x) (get_or l.t.first (node_number (InHalf x)) 0)
+through_place l x below at =
+    let e : get_or l.t.first (node_number (InHalf x)) 0 + 0 ≡ get_or l.t.first (node_number (InHalf x)) 0 = omega arith in
+    subst (λ (i : ℕ). LeadsTo (arcs_in l.n l.t) (InHalf x) (OutHalf x) i) e (leads_at l (InHalf x) (OutHalf x) 0 below at)
 
-through_place : (l : Loading) (x : Node) → IsNode (certificates l.graph).accounts x → LeadsTo (arcs_in l.n l.t) (first_half x) (second_half x) (get_or l.t.first (first_half x) 0)
-through_place l Root is = leads_first l (through_arc Root) (omega arith) (root_at (listing l))
-through_place l (Account a) is = leads_first l (through_arc (Account a)) (omega arith) (through_at (listing l) a is)
+through_each : (l : Loading) (x : Node) → IsNode (certificates l.graph).accounts x → LeadsTo (arcs_in l.n l.t) (InHalf x) (OutHalf x) (get_or l.t.first (node_number (InHalf x)) 0)
+through_each l Root is = through_place l Root (omega arith) (root_at (listing l))
+through_each l (Account a) is = through_place l (Account a) (omega arith) (through_at (listing l) a is)
 
-along_place : (l : Loading) (x : Node) (i b : ℕ) → IsTaker l.graph.rows x i b → LeadsTo (arcs_in l.n l.t) (second_half x) (first_half (Account b)) (get_or l.t.first (second_half x) 0 + (i + 1))
+along_place : (l : Loading) (x : Node) (i b : ℕ) → IsTaker l.graph.rows x i b → LeadsTo (arcs_in l.n l.t) (OutHalf x) (InHalf (Account b)) (get_or l.t.first (node_number (OutHalf x)) 0 + (i + 1))
 along_place l Root i b taken =
-    subst (λ (k : ℕ). LeadsTo (arcs_in l.n l.t) 1 (2 * b + 2) (get_or l.t.first 1 0 + (k + 1))) taken.2
-    (leads_at l (edge_arc Root b) (seeds_before l.graph.rows b + 1) (omega arith) (seed_at (listing l) b taken.0 taken.1))
+    subst (λ (k : ℕ). LeadsTo (arcs_in l.n l.t) (OutHalf Root) (InHalf (Account b)) (get_or l.t.first 2 0 + (k + 1))) taken.2
+    (leads_at l (OutHalf Root) (InHalf (Account b)) (seeds_before l.graph.rows b + 1) (omega arith) (seed_at (listing l) b taken.0 taken.1))
 along_place l (Account a) i b taken =
-    subst (λ (k : ℕ). LeadsTo (arcs_in l.n l.t) (2 * a + 3) (2 * k + 2) (get_or l.t.first (2 * a + 3) 0 + (i + 1))) taken.2
-    (leads_at l (edge_arc (Account a) (taker l.graph.rows a i)) (i + 1) (omega (arith, taken.0)) (cert_at (listing l) a i taken.0 taken.1))
+    subst (λ (k : ℕ). LeadsTo (arcs_in l.n l.t) (OutHalf (Account a)) (InHalf (Account k)) (get_or l.t.first (node_number (OutHalf (Account a))) 0 + (i + 1))) taken.2
+    (leads_at l (OutHalf (Account a)) (InHalf (Account (taker l.graph.rows a i))) (i + 1) (omega (arith, taken.0)) (cert_at (listing l) a i taken.0 taken.1))
 
 pub in_place : (l : Loading) → AreInPlace l.graph.rows (arcs_in l.n l.t)
 in_place l = record {
-  through = through_place l;
+  through = through_each l;
   only =
-      let all : List SplitArc → ℕ = λ arcs. all_ends arcs 0 in
-      omega (arith, l.laid.goes_on 0 (omega arith), ap all l.listed, ends-root (listing l));
-  ends = λ b below. leads_at l (end_arc (certificates l.graph).accounts b) 1 (omega arith) (end_at (listing l) b below);
+      let all : List SplitArc → ℕ = λ arcs. all_ends arcs 1 in
+      omega (arith, l.laid.goes_on 1 (omega arith), ap all l.listed, ends-root (listing l));
+  ends = λ b below. leads_at l (InHalf (Account b)) Supersink 1 (omega arith) (end_at (listing l) b below);
   along = along_place l;
-}
-
--- what holds of the graph without accounts
-pub nothing_given : GivesEachOnce (certificates nothing) (degree nothing.rows) (given nothing.rows)
-nothing_given = record {
-  giver = λ a i below within. absurd (omega arith);
-  taker = λ a i below within. absurd (omega arith);
-  others = λ a i below within. absurd (omega arith);
-  grade = λ a i below within. absurd (omega arith);
-  rises = λ a i j below less within. absurd (omega arith);
-  stands = λ a i below within. absurd (omega arith);
-  complete = λ a b below other some. absurd (omega arith);
-}
-
-pub table_of_one : IsTable (1 ∷ [])
-table_of_one =
-    let one : List ℕ = 1 ∷ [] in
-    let first : (i : ℕ) → i < length one → get_or one i 0 ≡ 1 = λ i within. let is : i ≡ 0 = omega arith in ap (λ (k : ℕ). get_or one k 0) is in
-    record {
-      some = omega arith;
-      few = omega arith;
-      least = λ i within. omega (arith, first i within);
-      most = λ i within. omega (arith, first i within);
-      falls = λ i within. absurd (omega arith);
-      end = refl;
-    }
-
-pub no_capacities : (level : Level) → AreCapacities (certificates nothing) level nothing.caps (cap_by 1 [])
-no_capacities level Root = inl (0, distance_of_root (certificates nothing) level, refl)
-no_capacities level (Account a) = inr (λ n walk. omega (arith, walk_within (certificates nothing) level n a walk), refl)
-
--- its one arc has no capacity
-no_capacity_at : (level : Level) (first : List ℕ) (e c : ℕ) → IsCapacityAt nothing.rows level (cap_by 1 []) first e c → c ≡ 0
-no_capacity_at level first e c (inl (Root, is, at, of)) = of
-no_capacity_at level first e c (inl (Account a, is, at, of)) = absurd (omega arith)
-no_capacity_at level first e c (inr (inl (b, below, at, of))) = absurd (omega arith)
-no_capacity_at level first e c (inr (inr (Root, i, b, taken, at, of))) = absurd (omega (arith, taken.0))
-no_capacity_at level first e c (inr (inr (Account a, i, b, taken, at, of))) = absurd (omega (arith, taken.0))
-
-pub nothing_filled : (level : Level) (first rests : List ℕ) → ((e : ℕ) → get_or rests e 0 ≡ 0) → AreFilled nothing.rows level (cap_by 1 []) first rests
-nothing_filled level first rests none = record {
-  each = λ e c at. none e ∙ sym (no_capacity_at level first e c at);
-  only = λ e some. absurd (omega (arith, none e));
 }

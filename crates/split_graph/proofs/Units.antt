@@ -1,14 +1,17 @@
 -- One unit moved along an arc is one unit moved between its ends.
-use Rattle.std.proofs.Common.{ℕ, ◌+◌, ◌*◌, ◌-◌, ◌^◌, ◌≡◌, ◌≢◌, ◌≤◌, ◌<◌, inl, inr, refl, arith, ap, sym, subst, ◌∙◌, List, length, get_or, set, get_or-set_same, get_or-set_other, length-set}
+use Rattle.std.proofs.Common.{ℕ, ◌+◌, ◌-◌, ◌^◌, ◌≡◌, ◌≢◌, ◌≤◌, ◌<◌, inl, inr, arith, ap, sym, subst, ◌∙◌, List, length, get_or, set, get_or-set_same, get_or-set_other, length-set}
 use Rattle.std.proofs.lemmas.Bool.{cases_eq}
 use Rattle.std.proofs.lemmas.Bool.Decides.{nat_tests}
 use Rattle.trust_types.specs.Sum.{sum_below}
 use Rattle.trust_types.proofs.Sums.{sum_below-eq}
+use Rattle.split_flow.specs.Split.{SplitNode}
+use Rattle.split_graph.specs.Numbers.{node_number, node_count}
 use Rattle.split_graph.specs.Arcs.{Arcs, AreArcs, IsSameGraph, LeadsTo, arc_count, head_of, twin_of, tail_of, rest_of, share, between, move_one}
 use Rattle.trust_types.specs.Layout.{Rows}
-use Rattle.split_graph.specs.Moved.{IsOneMoved}
+use Rattle.split_flow.specs.Moved.{IsOneMoved}
 use Rattle.split_graph.specs.Network.{AreInPlace}
-use Rattle.split_graph.proofs.Sums.{sum_below-point, sum_below-lone, sum_below-some}
+use Rattle.split_graph.proofs.Numbers.{node_number-injective, node_numbered}
+use Rattle.split_flow.proofs.Sums.{sum_below-point, sum_below-lone, sum_below-some}
 
 pub share_hit : (i j x y k : ℕ) → i ≡ x → j ≡ y → share i j x y k ≡ k
 share_hit i j x y k e f = grind (arith, nat_tests)
@@ -40,20 +43,28 @@ share_zero i j x y k none =
     ]
 
 -- what rests between two split nodes is what rests on the one arc from the first to the second
-pub between-arc : (a : Arcs) → AreArcs a → (e : ℕ) → e < arc_count a → between a (tail_of a e) (head_of a e) ≡ rest_of a e
-between-arc a are e below =
-    let x : ℕ = tail_of a e in
-    let y : ℕ = head_of a e in
-    sum_below-lone (arc_count a) (λ d. share (tail_of a d) (head_of a d) x y (rest_of a d)) e below
-    (λ d lt other. share_miss (tail_of a d) (head_of a d) x y (rest_of a d) (λ p q. other (are.simple d e lt below p q)))
-    ∙ share_hit x y x y (rest_of a e) refl refl
+pub between-arc : (a : Arcs) → AreArcs a → (u v : SplitNode) (e : ℕ) → LeadsTo a u v e → between a u v ≡ rest_of a e
+between-arc a are u v e leads =
+    sum_below-lone (arc_count a) (λ d. share (tail_of a d) (head_of a d) (node_number u) (node_number v) (rest_of a d)) e leads.within
+    (λ d lt other. share_miss (tail_of a d) (head_of a d) (node_number u) (node_number v) (rest_of a d) (λ p q. other (are.simple d e lt leads.within (p ∙ sym leads.tail) (q ∙ sym leads.head))))
+    ∙ share_hit (tail_of a e) (head_of a e) (node_number u) (node_number v) (rest_of a e) leads.tail leads.head
 
 -- where something can be moved, there is an arc along which it can
-pub arc-between : (a : Arcs) (u v : ℕ) → 0 < between a u v → (e : ℕ) × (e < arc_count a) × (tail_of a e ≡ u) × (head_of a e ≡ v) × (0 < rest_of a e)
+pub arc-between : (a : Arcs) (u v : SplitNode) → 0 < between a u v → (e : ℕ) × LeadsTo a u v e × (0 < rest_of a e)
 arc-between a u v some =
-    let e = sum_below-some (arc_count a) (λ d. share (tail_of a d) (head_of a d) u v (rest_of a d)) some in
-    let h = share_some (tail_of a e.0) (head_of a e.0) u v (rest_of a e.0) e.2 in
-    (e.0, e.1, h.0, h.1, h.2)
+    let e = sum_below-some (arc_count a) (λ d. share (tail_of a d) (head_of a d) (node_number u) (node_number v) (rest_of a d)) some in
+    let h = share_some (tail_of a e.0) (head_of a e.0) (node_number u) (node_number v) (rest_of a e.0) e.2 in
+    (e.0, record { within = e.1; tail = h.0; head = h.1 }, h.2)
+
+-- each arc leads from a split node to another
+pub ends_of : (a : Arcs) (e : ℕ) → e < arc_count a → (u : SplitNode) × (v : SplitNode) × LeadsTo a u v e
+ends_of a e below =
+    let tail = node_numbered (tail_of a e) in
+    let head = node_numbered (head_of a e) in
+    (tail.0, head.0, record { within = below; tail = sym tail.1; head = sym head.1 })
+
+pub nodes_apart : (a : Arcs) → AreArcs a → (u v : SplitNode) (e : ℕ) → LeadsTo a u v e → u ≢ v
+nodes_apart a are u v e leads same = are.apart e leads.within (leads.tail ∙ ap node_number same ∙ sym leads.head)
 
 pub twin_apart : (a : Arcs) → AreArcs a → (e : ℕ) → e < arc_count a → twin_of a e ≢ e
 twin_apart a are e below same = are.apart e below (ap (head_of a) same)
@@ -104,16 +115,16 @@ elsewhere a are e d x y below there back =
           ]
     ]
 
-pub moves_one : (a : Arcs) → AreArcs a → (e : ℕ) → e < arc_count a → 0 < rest_of a e →
-    IsOneMoved (between a) (between (move_one e a)) (tail_of a e) (head_of a e)
-moves_one a are e below some =
+pub moves_one : (a : Arcs) → AreArcs a → (u w : SplitNode) (e : ℕ) → LeadsTo a u w e → 0 < rest_of a e → IsOneMoved (between a) (between (move_one e a)) u w
+moves_one a are u w e leads some =
     let n : ℕ = arc_count a in
     let b : Arcs = move_one e a in
-    let p : ℕ = tail_of a e in
-    let v : ℕ = head_of a e in
+    let p : ℕ = node_number u in
+    let v : ℕ = node_number w in
     let t : ℕ = twin_of a e in
-    let apart : p ≢ v = are.apart e below in
-    let turned : tail_of a t ≡ v = ap (head_of a) (are.twin_back e below) in
+    let below : e < n = leads.within in
+    let apart : p ≢ v = λ same. are.apart e below (leads.tail ∙ same ∙ sym leads.head) in
+    let turned : tail_of a t ≡ v = ap (head_of a) (are.twin_back e below) ∙ leads.head in
     let before : ℕ → ℕ → ℕ → ℕ = λ x y d. share (tail_of a d) (head_of a d) x y (rest_of a d) in
     let after : ℕ → ℕ → ℕ → ℕ = λ x y d. share (tail_of a d) (head_of a d) x y (rest_of b d) in
     let down : sum_below n (before p v) ≡ sum_below n (after p v) + 1 =
@@ -127,7 +138,7 @@ moves_one a are e below some =
           subst P (sym same) (miss (rest_of a t) ∙ sym (miss (rest_of b t)))
       | inr not_twin ↦ ap (share (tail_of a d) (head_of a d) p v) (sym (rest_other a e d other not_twin))
     ])
-    (omega (arith, share_hit p v p v (rest_of a e) refl refl, share_hit p v p v (rest_of b e) refl refl, rest_down a are e below)) in
+    (omega (arith, share_hit (tail_of a e) (head_of a e) p v (rest_of a e) leads.tail leads.head, share_hit (tail_of a e) (head_of a e) p v (rest_of b e) leads.tail leads.head, rest_down a are e below)) in
     let up : sum_below n (after v p) ≡ sum_below n (before v p) + 1 =
     sum_below-point n (after v p) (before v p) t 1 (are.twin_within e below)
     (λ d lt not_twin.
@@ -135,15 +146,17 @@ moves_one a are e below some =
       | inl same ↦
           let P : ℕ → Type 0 = λ i. after v p i ≡ before v p i in
           let miss : (k : ℕ) → share (tail_of a e) (head_of a e) v p k ≡ 0 =
-          λ k. share_miss (tail_of a e) (head_of a e) v p k (λ f _. apart f) in
+          λ k. share_miss (tail_of a e) (head_of a e) v p k (λ f _. apart (sym leads.tail ∙ f)) in
           subst P (sym same) (miss (rest_of b e) ∙ sym (miss (rest_of a e)))
       | inr other ↦ ap (share (tail_of a d) (head_of a d) v p) (rest_other a e d other not_twin)
     ])
-    (omega (arith, share_hit (tail_of a t) (head_of a t) v p (rest_of a t) turned refl, share_hit (tail_of a t) (head_of a t) v p (rest_of b t) turned refl, rest_up a are e below)) in
+    (omega (arith, share_hit (tail_of a t) (head_of a t) v p (rest_of a t) turned leads.tail, share_hit (tail_of a t) (head_of a t) v p (rest_of b t) turned leads.tail, rest_up a are e below)) in
     record {
       down = sym down;
       up = up;
-      same = λ x y there back. sum_below-eq n (after x y) (before x y) (λ d lt. elsewhere a are e d x y below there back);
+      same = λ x y there back. sum_below-eq n (after (node_number x) (node_number y)) (before (node_number x) (node_number y)) (λ d lt. elsewhere a are e d (node_number x) (node_number y) below
+          (λ f g. there (node_number-injective x u (f ∙ leads.tail)) (node_number-injective y w (g ∙ leads.head)))
+          (λ f g. back (node_number-injective x w (f ∙ leads.head)) (node_number-injective y u (g ∙ leads.tail))));
     }
 
 -- the arrays belong together and lead where they led, whatever rests on them
@@ -170,7 +183,7 @@ other_rests a rests are long room = record {
   room = room;
 }
 
-still_leads : (a : Arcs) (rests : List ℕ) (u v e : ℕ) → LeadsTo a u v e → LeadsTo (with_rests a rests) u v e
+pub still_leads : (a : Arcs) (rests : List ℕ) (u v : SplitNode) (e : ℕ) → LeadsTo a u v e → LeadsTo (with_rests a rests) u v e
 still_leads a rests u v e leads = record { within = leads.within; tail = leads.tail; head = leads.head }
 
 pub still_in_place : (r : Rows) (a : Arcs) (rests : List ℕ) → AreInPlace r a → AreInPlace r (with_rests a rests)
@@ -204,7 +217,7 @@ still_arcs a are e below some =
 
 -- the same arcs lead where they led
 pub same_count : (a b : Arcs) → IsSameGraph a b → arc_count b ≡ arc_count a
-same_count a b same = subst (λ (n : ℕ). get_or b.first (2 * n + 3) 0 ≡ arc_count a) (sym same.accounts) (ap (λ (xs : List ℕ). get_or xs (2 * a.accounts + 3) 0) same.first)
+same_count a b same = subst (λ (n : ℕ). get_or b.first (node_count n) 0 ≡ arc_count a) (sym same.accounts) (ap (λ (xs : List ℕ). get_or xs (node_count a.accounts) 0) same.first)
 
 pub same_head : (a b : Arcs) → IsSameGraph a b → (e : ℕ) → head_of b e ≡ head_of a e
 same_head a b same e = ap (λ (xs : List ℕ). get_or xs e 0) same.head

@@ -6,8 +6,6 @@ mod capacities;
 mod residual_graph;
 mod split_arcs;
 mod split_nodes;
-#[cfg(test)]
-mod tests;
 
 pub use residual_graph::Residual;
-pub use split_nodes::{entered_account, first_half, second_half};
+pub use split_nodes::{SOURCE, entered_account, in_half, out_half};

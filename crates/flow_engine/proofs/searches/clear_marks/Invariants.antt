@@ -1,5 +1,5 @@
 use Rattle.std.proofs.Common.{ℕ, ◌≡◌, ◌<◌, ◌≤◌, true, false, length, get_or}
-use Rattle.flow_engine.specs.Tree.{no_place}
+use Rattle.flow_engine.specs.inner.Tree.{no_place}
 use Rattle.flow_engine.proofs.searches.clear_marks.Given as goal
 
 abbrev pub invariant-loop-place : goal.invariant-loop-place

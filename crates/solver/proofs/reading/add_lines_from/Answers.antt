@@ -3,7 +3,6 @@ use Rattle.trust_types.specs.declared.graphs.Cert.{Cert}
 use Rattle.trust_types.specs.declared.accounts.Node.TheVariants.{Account}
 use Rattle.trust_types.specs.Flow.{Flow, is_served}
 use Rattle.trust_types.specs.Layout.{Rows, accounts, taker}
-use Rattle.frozen.specs.Revision.{Revision}
 use Rattle.flow_engine.specs.Solved.{flow_in}
 use Rattle.solver.proofs.Writing.{row_none, row_more, row_unserved}
 use Rattle.solver.proofs.reading.add_lines_from.Goals as goal
@@ -20,11 +19,11 @@ loop-i-preserved c =
     rw c.in_ok-add_line.ensures
     (row_more r f a i c.loop-i.lines.items (record { from = Account a; to = c.given-to.result.to; units = c.units.result }) c.requires.readers c.requires.giver (omega arith)
     c.loop-i.invariant refl (ap (λ (d : Cert). d.to) c.given-to.ensures)
-    (c.units.ensures ∙ ap (λ (g : Revision). f (Account a) (taker g.rows a i)) c.requires.graph))
+    (c.units.ensures ∙ ap (λ (r : Rows). f (Account a) (taker r a i)) c.requires.rows))
 
 pub returns-then-not-served : goal.returns-then-not-served
 returns-then-not-served c =
     let f : Flow = flow_in c.args.workspace.now in
     let r : Rows = c.args.frozen.now.rows in
-    let unserved : is_served (accounts r) f c.args.giver ≡ false = sym (rw c.requires.graph at c.served.ensures) ∙ c.if-not-served.true in
+    let unserved : is_served (accounts r) f c.args.giver ≡ false = sym (rw c.requires.rows at c.served.ensures) ∙ c.if-not-served.true in
     row_unserved r f c.args.giver c.args.lines.now.items c.requires.readers c.requires.goes_along c.requires.conduits c.requires.giver unserved c.requires.written

@@ -1,13 +1,13 @@
 use Rattle.std.proofs.Common.{arith}
-use Rattle.flow_engine.specs.Tree.{IsSearching, IsWay, reach}
-use Rattle.flow_engine.proofs.Trees.{Step, step, inside, room_to_enter, goes_on, way_found}
+use Rattle.flow_engine.specs.inner.Tree.{IsSearching, IsWay, reach}
+use Rattle.flow_engine.proofs.Trees.{Step, step, head_below, room_to_enter, goes_on, way_found}
 use Rattle.flow_engine.proofs.searches.Search.enter.Goals as goal
 
 pub reach-requires-clause-room : goal.reach-requires-clause-room
 reach-requires-clause-room g c = room_to_enter (step c.requires.stands.arcs c.requires.searching c.requires.leads)
 
 pub ending-requires-clause-node : goal.ending-requires-clause-node
-ending-requires-clause-node g c = omega (arith, c.head-head.ensures, inside (step c.requires.stands.arcs c.requires.searching c.requires.leads))
+ending-requires-clause-node g c = omega (arith, c.head-head.ensures, head_below (step c.requires.stands.arcs c.requires.searching c.requires.leads))
 
 pub returns-in_err-end-clause-searching : goal.returns-in_err-end-clause-searching
 returns-in_err-end-clause-searching g c =

@@ -1,5 +1,5 @@
 use Rattle.std.proofs.Common.{ℕ, ◌+◌, ◌∙◌, sym, arith}
-use Rattle.flow_engine.specs.Tree.{node_at}
+use Rattle.flow_engine.specs.inner.Tree.{node_at}
 use Rattle.flow_engine.proofs.searches.Search.expand.Goals as goal
 
 pub look-requires-clause-within : goal.look-requires-clause-within

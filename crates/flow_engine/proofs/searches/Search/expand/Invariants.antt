@@ -1,5 +1,5 @@
 use Rattle.std.proofs.Common.{ℕ, ◌<◌, ◌≤◌}
-use Rattle.flow_engine.specs.Tree.{IsSearching, IsGrown, IsLookedAt}
+use Rattle.flow_engine.specs.inner.Tree.{IsSearching, IsGrown, IsLookedAt}
 use Rattle.flow_engine.proofs.searches.Search.expand.Given as goal
 
 abbrev pub invariant-loop-arc : goal.invariant-loop-arc

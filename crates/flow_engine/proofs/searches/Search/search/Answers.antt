@@ -1,5 +1,5 @@
 use Rattle.std.proofs.Common.{arith, ap}
-use Rattle.flow_engine.specs.Tree.{Reached}
+use Rattle.flow_engine.specs.inner.Tree.{Reached}
 use Rattle.flow_engine.proofs.Trees.{saturated}
 use Rattle.flow_engine.proofs.searches.Search.search.Goals as goal
 

@@ -1,5 +1,5 @@
 use Rattle.std.proofs.Common.{length, ◌≡◌, ◌+◌, ◌-◌}
-use Rattle.flow_engine.specs.Tree.{IsSearching}
+use Rattle.flow_engine.specs.inner.Tree.{IsSearching}
 use Rattle.flow_engine.proofs.searches.Search.search.Given as goal
 
 abbrev pub invariant-loop-self : goal.invariant-loop-self

@@ -1,6 +1,10 @@
-use Rattle.std.proofs.Common.{◌≡◌, ◌∙◌, arith, sym, ap, length, rules}
+use Rattle.std.proofs.Common.{Bool, ◌≡◌, ◌∙◌, arith, sym, ap, length, rules}
+use Rattle.std.specs.Prelude.{Some, None}
 use Rattle.split_graph.specs.Network.{Room}
-use Rattle.flow_engine.proofs.Readings.{nothing_read}
+use Rattle.split_flow.specs.Split.{SplitNode, InHalf, OutHalf}
+use Rattle.split_flow.specs.Moved.{side_of_halves}
+use Rattle.split_graph.specs.Numbers.{node_number}
+use Rattle.flow_engine.specs.inner.Tree.{is_seen}
 use Rattle.flow_engine.proofs.solving.Workspace.reserve.Goals as goal
 
 pub invariant_of-result : goal.invariant_of-result
@@ -17,5 +21,10 @@ invariant_of-result c =
         capacities = capacities ∙ sym is;
         units = root_units ∙ sym is;
       },
-      nothing_read _ _ c.in_ok-reserve.ensures.stands c.in_ok-reserve.ensures.empty c.in_ok-reserve.ensures.closed,
+      λ f is. let none : None ≡ Some f = sym c.in_ok-reserve.ensures.empty ∙ is in absurd (cc),
     )
+
+pub returns-clause-unreached : goal.returns-clause-unreached
+returns-clause-unreached c x =
+    let seen : SplitNode → Bool = λ u. is_seen c.in_ok-reserve-2.field-0 (node_number u) in
+    ap (λ (p : Bool). side_of_halves p (seen (OutHalf x))) (c.in_ok-reserve-2.ensures.none (node_number (InHalf x)))

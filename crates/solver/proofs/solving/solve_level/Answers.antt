@@ -1,0 +1,5 @@
+use Rattle.split_graph.proofs.Standing.{rows_loaded}
+use Rattle.solver.proofs.solving.solve_level.Goals as goal
+
+pub roster_of-requires-clause-rows : goal.roster_of-requires-clause-rows
+roster_of-requires-clause-rows g c = rows_loaded c.solve.new.self.network c.args.frozen.now c.solve.ensures.graph

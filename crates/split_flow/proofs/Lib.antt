@@ -1,0 +1,11 @@
+pub mod Sums
+pub mod Counted
+pub mod Nodes
+pub mod NodeSums
+pub mod Halves
+pub mod Feasible
+pub mod Saturated
+pub mod Ways
+pub mod Balance
+pub mod Capacities
+pub mod Endings

@@ -1,0 +1,4 @@
+pub mod Split
+pub mod Moved
+pub mod Solved
+pub mod Laws

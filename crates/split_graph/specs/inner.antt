@@ -1,0 +1,4 @@
+pub mod Layout
+pub mod SplitArcs
+pub mod Held
+pub mod Capacities
