@@ -1,0 +1,6 @@
+pub mod Fronts
+mod Tagging
+mod Cleaned
+mod Stepping
+mod Safety
+mod Utf8

@@ -1,0 +1,7 @@
+pub mod Escapes
+pub mod Elements
+pub mod Urls
+pub mod Tags
+pub mod Cleaning
+pub mod Safe
+pub mod inner
