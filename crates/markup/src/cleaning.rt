@@ -56,8 +56,8 @@ fn close_through(html: &mut Vec<u8>, opened: &mut Opened, element: Element) -> R
 fn close_all(html: &mut Vec<u8>, opened: &mut Opened) -> Result<(), NoMemory>
     ensures { OnOk result (html.new.items ≡ html.old.items ++ end_tags opened.old) }
 {
-    while let Some(top) = opened.pop() {
-        write(html, top.end_tag())?;
+    while let Some(element) = opened.pop() {
+        write(html, element.end_tag())?;
     }
     Ok(())
 }
