@@ -4,8 +4,6 @@ use Rattle.std.specs.Prelude.{Some, not, ◌||◌, Contains, codes, encode_utf8}
 use Rattle.std.specs.Str.{IsUtf8}
 use Rattle.std.proofs.lemmas.Bool.{and_parts, cases_lt}
 use Rattle.std.proofs.lemmas.Bool.Decides.{nat_tests}
-use Rattle.std.proofs.lemmas.List.Elements.{All-contains}
-use Rattle.std.proofs.lemmas.List.Sums.{AllPass-from_list_all}
 use Rattle.std.proofs.lemmas.Str.{encode_ascii, inside_one, byte_from_char, length-encode, len_utf8_bounds}
 use lib.Utf8.{scalar, scalars, encode, encodes, low_scalar}
 use Rattle.markup.specs.declared.elements.Element.{Element}
@@ -16,6 +14,7 @@ use Rattle.markup.specs.Tags.{Tag, LineBreak, PageLink, AnchorStart, Start, End}
 use Rattle.markup.specs.Cleaning.{Step, is_full, end_tags, end_tags_through, below, by_rule, step_at, cleaned_from, cleaned}
 use Rattle.markup.specs.Safe.{IsSafe, Empty, Character, Escape, Anchor, Bare, IsSafeHtml}
 use Rattle.markup.specs.Safe as safe
+use Rattle.markup.proofs.Each.{not-true, on-bare}
 use Rattle.markup.proofs.Fronts.{high-plain, high-then, escape_of-plain, escaped-cons}
 use Rattle.markup.proofs.Tagging.{IsCut, IsSound, IsUtf8-behind, found-tag}
 use Rattle.markup.proofs.Cleaned.{unless, cleaned-step_at, cleaned-cons, step-cases, step-rest, rest-shorter, by_rule-rest}
@@ -129,14 +128,10 @@ in_anchor-a : (opened : List Element) → in_anchor (A ∷ opened) ≡ true
 unfolding is_same
 in_anchor-a opened = refl
 
-not-true : (b : Bool) → not b ≡ true → b ≡ false
-not-true true e = absurd (cc)
-not-true false e = refl
-
 in_anchor-bare : (x : Element) (opened : List Element) → Contains bare x → in_anchor (x ∷ opened) ≡ in_anchor opened
 unfolding is_same
 in_anchor-bare x opened is_one =
-    ap (λ b. b || in_anchor opened) (not-true (is_same A x) (All-contains (λ x. not (is_same A x) ≡ true) bare x (AllPass-from_list_all (λ x. not (is_same A x)) bare refl) is_one))
+    ap (λ b. b || in_anchor opened) (not-true (is_same A x) (on-bare (λ x. not (is_same A x)) refl x is_one))
 
 abbrev Leads : List Element → List ℕ → Step → Type 0
 Leads opened out step = MayFollow step.opened out → MayFollow opened (step.written ++ out)

@@ -69,7 +69,7 @@ behind-later text rest n inside h =
     }
 
 -- A text that begins with a word has its bytes.
-starts-whole : (text word : List ℕ) → starts_with nat_eq text word ≡ true → word ≡ take (length word) text
+pub starts-whole : (text word : List ℕ) → starts_with nat_eq text word ≡ true → word ≡ take (length word) text
 starts-whole text word e = same_text word (take (length word) text) (sym e)
 
 starts-length : (text word : List ℕ) → starts_with nat_eq text word ≡ true → length word ≤ length text

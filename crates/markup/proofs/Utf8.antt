@@ -11,12 +11,13 @@ use Rattle.std.proofs.lemmas.Str.Ascii.{IsAscii-from_all}
 use lib.Utf8.{scalar, scalars, encode, encodes, low_scalar}
 use Rattle.trust_types.proofs.NameBytes.{IsUtf8-name}
 use Rattle.markup.specs.declared.elements.Element.{Element}
-use Rattle.markup.specs.declared.elements.Element.TheVariants.{A, B, I, Em, Strong, Tt, Code, Pre, P, Blockquote, Ul, Ol, Li}
+use Rattle.markup.specs.declared.elements.Element.TheVariants.{A}
 use Rattle.markup.specs.declared.elements.Page.{Page}
 use Rattle.markup.specs.declared.elements.Page.TheVariants.{Person, Project}
 use Rattle.markup.specs.Elements.{name_of, start_tag, end_tag, page_word, link, anchor_tag}
 use Rattle.markup.specs.Escapes.{is_plain, escape_of, escaped}
 use Rattle.markup.specs.Safe.{IsSafe, Empty, Character, Escape, LineBreak, PageLink, Anchor, Bare}
+use Rattle.markup.proofs.Each.{on-all}
 use Rattle.markup.proofs.Fronts.{high-then, escaped-cons}
 use Rattle.markup.proofs.Safety.{encode-high}
 
@@ -25,19 +26,7 @@ ascii : (word : List ℕ) → list_all (λ b. nat_lt b 128) word ≡ true → Is
 ascii word e = IsUtf8-from_ascii word (IsAscii-from_all word (λ k d inside. ltb-true _ _ (AllPass-from_list_all (λ b. nat_lt b 128) word e k d inside)))
 
 IsUtf8-element : (x : Element) → IsUtf8 (name_of x)
-IsUtf8-element A = ascii (codes "a") refl
-IsUtf8-element B = ascii (codes "b") refl
-IsUtf8-element I = ascii (codes "i") refl
-IsUtf8-element Em = ascii (codes "em") refl
-IsUtf8-element Strong = ascii (codes "strong") refl
-IsUtf8-element Tt = ascii (codes "tt") refl
-IsUtf8-element Code = ascii (codes "code") refl
-IsUtf8-element Pre = ascii (codes "pre") refl
-IsUtf8-element P = ascii (codes "p") refl
-IsUtf8-element Blockquote = ascii (codes "blockquote") refl
-IsUtf8-element Ul = ascii (codes "ul") refl
-IsUtf8-element Ol = ascii (codes "ol") refl
-IsUtf8-element Li = ascii (codes "li") refl
+IsUtf8-element x = ascii (name_of x) (on-all (λ x. list_all (λ b. nat_lt b 128) (name_of x)) refl x)
 
 IsUtf8-page : (page : Page) → IsUtf8 (page_word page)
 IsUtf8-page Person = ascii (codes "person") refl

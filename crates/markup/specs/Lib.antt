@@ -4,4 +4,5 @@ pub mod Urls
 pub mod Tags
 pub mod Cleaning
 pub mod Safe
+pub mod Reader
 pub mod inner

@@ -1,5 +1,6 @@
-ghost use Rattle.std.specs.Prelude.{◌≡◌};
+ghost use Rattle.std.specs.Prelude.{◌≡◌, All};
 ghost use Rattle.std.specs.Str.{IsUtf8};
+ghost use Rattle.markup.specs.Reader.{IsAllowed, tags};
 ghost use Rattle.markup.specs.Safe.{IsSafeHtml};
 
 use std::marker::Model;
@@ -37,6 +38,8 @@ impl SafeHtml {
         ensures all { result.now ≡ self.now }
         ensures safe { IsSafeHtml self.now }
         ensures utf8 { IsUtf8 self.now }
+        // What stands from each < to the next >, whoever reads it.
+        ensures tags { All IsAllowed (tags self.now) }
     {
         self.bytes.as_slice()
     }
