@@ -65,7 +65,9 @@ fn close_all(html: &mut Vec<u8>, opened: &mut Opened) -> Result<(), NoMemory>
 /// Does with the tag what its rule says; `false` where the rule doesn't apply, and nothing is done.
 #[tactic(auto, unfolding(crate::specs::Cleaning::by_rule))]
 fn apply(html: &mut Vec<u8>, opened: &mut Opened, found: Found<'_>) -> Result<bool, NoMemory>
-    ensures { let tag = seen found.entry in IfOk result (λ applies. Applies applies tag.rest html.old.items html.new.items opened.old opened.new (by_rule opened.old tag)) }
+    ensures { let tag = seen found.entry in
+        IfOk result (λ applies.
+        Applies applies tag.rest html.old.items html.new.items opened.old opened.new (by_rule opened.old tag)) }
 {
     match found.tag {
         Tag::LineBreak => {
@@ -106,7 +108,8 @@ fn apply(html: &mut Vec<u8>, opened: &mut Opened, found: Found<'_>) -> Result<bo
 fn step<'a>(html: &mut Vec<u8>, opened: &mut Opened, text: &'a [u8]) -> Result<&'a [u8], NoMemory>
     requires { 0 < length text.now }
     ensures shorter { IfOk result (λ rest. length rest.now < length text.now) }
-    ensures done { IfOk result (λ rest. Does rest.now html.old.items html.new.items opened.new (step_at opened.old text.now)) }
+    ensures done { IfOk result (λ rest.
+        Does rest.now html.old.items html.new.items opened.new (step_at opened.old text.now)) }
 {
     if let Some(found) = tag_at(text) {
         if apply(html, opened, found)? {
@@ -117,8 +120,9 @@ fn step<'a>(html: &mut Vec<u8>, opened: &mut Opened, text: &'a [u8]) -> Result<&
     Ok(&text[1..])
 }
 
-/// The text cleaned: the elements and links that it may have stay, all else is escaped, and what it leaves open is closed. No text
-/// is refused. One pass, and no memory but that of the output and of 64 open elements. The one error is out of memory.
+/// The text cleaned: the elements and links that it may have stay, all else is escaped, and what it leaves open is closed. No
+/// text is refused. One pass, whose time grows with the text alone, and no memory but the output's and that of 64 open elements.
+/// The output has at most six times the text's bytes. The one error is out of memory.
 pub fn clean(alloc: Global, text: &str) -> Result<SafeHtml, NoMemory>
     ensures { IfOk result (λ html. html ≡ cleaned text.now) }
 {
@@ -133,8 +137,8 @@ pub fn clean(alloc: Global, text: &str) -> Result<SafeHtml, NoMemory>
     Ok(SafeHtml::of(html))
 }
 
-/// The text with `&`, `<`, `>` and `"` escaped, so that it is text wherever a page has text or an attribute in quotes. No text is
-/// refused. The one error is out of memory.
+/// The text with `&`, `<`, `>` and `"` escaped, so that it is text wherever a page has text or an attribute in quotes. No text
+/// is refused. One pass. The one error is out of memory.
 pub fn escape(alloc: Global, text: &str) -> Result<SafeHtml, NoMemory>
     ensures { IfOk result (λ html. html ≡ escaped text.now) }
 {

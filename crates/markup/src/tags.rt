@@ -4,7 +4,8 @@ ghost use Rattle.std.specs.List.{prefix_len, take_while};
 ghost use Rattle.std.specs.Option.{option_map};
 ghost use Rattle.std.specs.Str.{str_eq_ignore_ascii_case};
 ghost use Rattle.trust_types.specs.Names.{is_name, is_name_byte};
-ghost use Rattle.markup.specs.Tags.{word_at, behind_word, called, line_break_at, page_link_at, anchor_at, start_at, end_at, form_at, tag_at};
+ghost use Rattle.markup.specs.Tags.{word_at, behind_word, called};
+ghost use Rattle.markup.specs.Tags.{line_break_at, page_link_at, anchor_at, start_at, end_at, form_at, tag_at};
 ghost use Rattle.markup.specs.Urls.{is_url_byte, has_scheme};
 ghost use Rattle.markup.specs.Elements.{bare};
 ghost use Rattle.markup.specs.inner.Seen.{seen};
@@ -261,8 +262,8 @@ fn split_word(text: &[u8]) -> (&[u8], &[u8])
     text.split_at(word_len(text))
 }
 
-/// The tag at the front of the text, if one stands there. Of a `<` further on it looks at no byte behind the next dozen: no
-/// byte of a word, a name or a URL is one, so that over a whole text each byte is looked at a few times.
+/// The tag at the front of the text, if one stands there. It reads a word of letters, and where that word asks for one a name
+/// or a URL. None of these has a `<` in it, so that over a whole text no byte is read more than a few times.
 #[tactic(auto, unfolding(crate::specs::Tags::tag_at))]
 pub fn tag_at(text: &[u8]) -> Option<Found<'_>>
     ensures { option_map seen result ≡ tag_at text.now }

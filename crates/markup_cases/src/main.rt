@@ -19,7 +19,12 @@ fn shown(alloc: Global, heading: &str, text: &str) -> Result<SafeHtml> {
 }
 
 /// Writes a block, and empties both for the next one.
-fn show(alloc: Global, heading: &mut String, text: &mut String, out: &mut impl Write) -> Result<()> {
+fn show(
+    alloc: Global,
+    heading: &mut String,
+    text: &mut String,
+    out: &mut impl Write,
+) -> Result<()> {
     let html = shown(alloc, heading.as_str(), text.as_str())?;
     out.write_all(heading.as_bytes())?;
     out.write_all(b"\n")?;
