@@ -17,8 +17,8 @@ import tempfile
 from html.parser import HTMLParser
 from pathlib import Path
 
-TOP = Path(__file__).resolve().parent.parent
-PROGRAM = TOP / "crates" / "markup_cases" / "out" / "markup_cases"
+from markup_program import answers
+
 SCRIPT = "document.title='changed'"
 TEXTS = (
     f"<script>{SCRIPT}</script>",
@@ -37,9 +37,8 @@ TARGET = re.compile(r"https?://|/person/[a-z][a-z0-9]{0,19}$|/project/[a-z][a-z0
 
 
 def cleaned(texts):
-    given = "".join(f"clean: {number}\n{text}\n\n" for number, text in enumerate(texts))
-    run = subprocess.run([PROGRAM], input=given.encode(), capture_output=True, check=True)
-    return [block.partition("\n")[2] for block in run.stdout.decode().split("\n\n")[:-1]]
+    blocks = [(f"clean: {number}", text) for number, text in enumerate(texts)]
+    return [block.partition("\n")[2] for block in answers(blocks).split("\n\n")[:-1]]
 
 
 def page(texts):

@@ -10,11 +10,10 @@ depends on this check: that the program keeps the rules is proved.
 
 import random
 import re
-import subprocess
 import sys
-from pathlib import Path
 
-TOP = Path(__file__).resolve().parent.parent
+from markup_program import answers
+
 ESCAPES = {"&": "&amp;", "<": "&lt;", ">": "&gt;", '"': "&quot;"}
 NAMES = "b|i|em|strong|tt|code|pre|p|blockquote|ul|ol|li"
 DEPTH = 64
@@ -114,12 +113,9 @@ def random_texts(count):
 
 def compare(count):
     blocks = [(f"{('clean', 'escape')[number % 10 == 0]}: {number}", text) for number, text in enumerate(random_texts(count))]
-    program = TOP / "crates" / "markup_cases" / "out" / "markup_cases"
-    given = "".join(f"{heading}\n{text}\n\n" for heading, text in blocks)
-    run = subprocess.run([program], input=given.encode(), capture_output=True, check=True)
-    if run.stdout.decode() != answered(blocks):
-        wanted = answered(blocks).split("\n\n")
-        first = next(pair for pair in zip(run.stdout.decode().split("\n\n"), wanted) if pair[0] != pair[1])
+    given, wanted = answers(blocks), answered(blocks)
+    if given != wanted:
+        first = next(pair for pair in zip(given.split("\n\n"), wanted.split("\n\n")) if pair[0] != pair[1])
         sys.exit("the program answered\n{}\nand the rules\n{}".format(*first))
     print(f"{count} texts, the same by the rules and by the program")
 
