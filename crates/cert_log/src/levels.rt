@@ -3,7 +3,7 @@
 ghost use Rattle.std.specs.Prelude.{◌≡◌, ◌≤◌, List, IfOk, length, map};
 ghost use Rattle.trust_types.specs.declared.graphs.Cert.{Cert};
 ghost use Rattle.cert_log.specs.Standing.{AreStanding};
-ghost use Rattle.cert_log.specs.Log.{AreLevels, TakesLevel, cert_at};
+ghost use Rattle.cert_log.specs.inner.Levels.{AreLevels, TakesLevel, cert_at};
 ghost use Rattle.pair_map.specs.Pairs.{Rises};
 
 use crate::logs::MOST;

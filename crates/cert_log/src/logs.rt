@@ -42,7 +42,7 @@ impl CertLog {
     /// 2,000,000 take a place in a list each, and a later one a look-up.
     ///
     /// # Errors
-    /// [`NoMemory`] where there isn't enough for it: the log is of no more use then.
+    /// [`NoMemory`] where there isn't enough for it: then the log is as it was.
     pub fn push(&mut self, cert: Cert) -> Result<bool, NoMemory>
         ensures { (cs : List Cert) → IsLog self.old cs → Takes cs cert result self.new }
     {

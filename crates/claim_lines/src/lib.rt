@@ -9,6 +9,3 @@ mod units;
 
 pub use drafts::{ClaimDraft, ClaimParts};
 pub use level_lines::{is_level_line, read_level};
-
-#[cfg(test)]
-mod tests;

@@ -11,6 +11,3 @@ mod tables;
 pub use drafts::SiteDraft;
 pub use parts::SiteParts;
 pub use tables::read_table;
-
-#[cfg(test)]
-mod tests;
