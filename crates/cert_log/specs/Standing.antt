@@ -1,6 +1,7 @@
 -- The certificates that stand.
 use Rattle.std.specs.Prelude.{ℕ, ◌≡◌, ◌≢◌, ◌<◌, ◌≤◌, ◌↔◌, List, All, AllPairs, Contains, length}
 use Rattle.trust_types.specs.declared.graphs.Cert.{Cert}
+use Rattle.trust_types.specs.declared.limits.TheConstants.{MOST_CERTS}
 use Rattle.trust_types.specs.Levels.{IsGrade}
 use Rattle.trust_types.specs.Kept.{standing_among}
 use Rattle.trust_types.specs.Certs.{IsBefore, CanStand}
@@ -8,7 +9,7 @@ use Rattle.trust_types.specs.Certs.{IsBefore, CanStand}
 -- These stand after the certificates: at most 2,000,000, in rising order of giver and taker, each pair that has a grade
 -- at its level, and no other.
 pub record AreStanding (certs kept : List Cert) : Type 0 where
-  pub few : length kept ≤ 2000000
+  pub few : length kept ≤ MOST_CERTS
   pub rises : AllPairs IsBefore kept
   pub just : (c : Cert) → Contains kept c ↔ (IsGrade c.level × (standing_among certs c.from c.to ≡ c.level))
 

@@ -5,3 +5,4 @@ pub mod Faults
 pub mod Reading
 pub mod Steps
 pub mod Places
+pub mod inner
