@@ -1,6 +1,6 @@
 -- Steps of which the first that fails gives the fault: what each gives where all of them pass, and what a draft's line says
 -- where one fails.
-use Rattle.std.proofs.Common.{◌≡◌, ℕ, Bool, true, false, List, [], ◌∷◌, Option, Some, None, Result, Ok, Err, refl}
+use Rattle.std.proofs.Common.{◌≡◌, ℕ, Bool, true, false, List, [], ◌∷◌, Option, Some, None, Result, Ok, Err, refl, ap, sym, subst}
 use Rattle.std.specs.Option.{ok_or}
 use Rattle.std.specs.Result.{IsErrAnd}
 use Rattle.trust_types.specs.Names.{is_name}
@@ -47,8 +47,17 @@ name_by false word name named e = let none : name_in word ≡ Err BadName = rw n
 pub name_in-ok : (word name : List ℕ) → name_in word ≡ Ok name → (name ≡ word) × (is_name word ≡ true)
 name_in-ok word name e = name_by (is_name word) word name refl e
 
--- A step that fails is the fault of the line.
+-- The fault of a line.
+pub faulty : {S D : Type 0} (Is : D → S → Type 0) (new : D) (result : Result (Unit {0}) LineFault) (said : Result S TextKind) (kind : TextKind) →
+    IsErrAnd result (λ fault. fault ≡ Kind kind) → said ≡ Err kind → Reads Is result new said
+faulty Is new (Ok u) said kind fault e = absurd fault
+faulty Is new (Err other) said kind fault e = rw fault e
+
+-- A step that fails is the fault of the line, and one that passes leaves it to the further ones.
 pub refused : {S D X : Type 0} (Is : D → S → Type 0) (new : D) (result : Result (Unit {0}) LineFault) (step : Result X TextKind) (further : X → Result S TextKind) (kind : TextKind) →
     IsErrAnd result (λ fault. fault ≡ Kind kind) → step ≡ Err kind → Reads Is result new (step >>= further)
-refused Is new (Ok u) step further kind fault e = absurd fault
-refused Is new (Err other) step further kind fault e = rw (fault, e) refl
+refused Is new result step further kind fault e = faulty Is new result (step >>= further) kind fault (ap (λ r. r >>= further) e)
+
+pub passed : {S D X : Type 0} (Is : D → S → Type 0) (new : D) (result : Result (Unit {0}) LineFault) (step : Result X TextKind) (further : X → Result S TextKind) (x : X) →
+    step ≡ Ok x → Reads Is result new (further x) → Reads Is result new (step >>= further)
+passed Is new result step further x e rest = subst (λ r. Reads Is result new (r >>= further)) (sym e) rest
