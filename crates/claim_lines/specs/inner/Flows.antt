@@ -1,4 +1,5 @@
--- The lines of a flow as the entries of a map of pairs: a giver by its place, a taker by its number, and the units.
+-- For the drafts alone: the lines of a flow as the entries of a map of pairs, a giver by its place, a taker by its number, and the
+-- units.
 use Rattle.std.specs.Prelude.{ℕ, zero, suc, List, Option, map}
 use Rattle.trust_types.specs.declared.accounts.Node.{Node}
 use Rattle.trust_types.specs.declared.accounts.Node.TheVariants.{Root, Account}
