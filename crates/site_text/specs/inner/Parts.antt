@@ -1,17 +1,16 @@
--- What the private calls of the reader read of a text.
-use Rattle.std.specs.Prelude.{ℕ, ◌≡◌, ◌+◌, List, [], ◌∷◌, Result, Err, Option, Some, None}
+-- For the reader's own functions: what they read of a text.
+use Rattle.std.specs.Prelude.{ℕ, Bool, ◌≡◌, ◌+◌, ◌&&◌, List, [], ◌∷◌, Option, Some, None}
 use Rattle.trust_types.specs.declared.levels.Level.{Level}
 use Rattle.trust_types.specs.declared.records.Record.{Record}
 use Rattle.site_lines.specs.Drafts.{IsSiteDraft}
-use Rattle.claim_lines.specs.Claim.{Claim}
+use Rattle.claim_lines.specs.Claim.{Claim, is_level_line}
 use Rattle.claim_lines.specs.Drafts.{IsClaimDraft}
-use Rattle.text_lines.specs.declared.faults.TextKind.TheVariants.{BadLine}
-use Rattle.text_lines.specs.declared.faults.TextFault.{TextFault}
-use Rattle.text_lines.specs.Steps.{at_line}
-use Rattle.site_lines.specs.Site.{caps_line}
-use Rattle.site_text.specs.Site.{fault}
 use Rattle.site_text.specs.declared.reading.SitePart.{SitePart}
 use Rattle.site_text.specs.declared.reading.Claimed.{Claimed}
+
+-- Whether a line ends the site: in a proof text a `level` line does.
+abbrev pub ends_site : Bool → List ℕ → Bool
+ends_site in_proof line = in_proof && is_level_line line
 
 -- A draft of the site of these records.
 abbrev pub IsPart : SitePart → List Record → Type 0
@@ -31,8 +30,3 @@ claim_number (Some line) read = read
 pub record IsClaimed (accounts : ℕ) (claimed : Claimed) (said : Level × Claim) : Type 0 where
   pub level : claimed.level ≡ said.0
   pub claim : IsClaimDraft accounts claimed.draft said.1
-
--- The table of a text's first line.
-abbrev pub table_of : List (List ℕ) → Result (List ℕ) TextFault
-table_of [] = Err (fault 1 BadLine)
-table_of (first ∷ others) = at_line 1 (caps_line first)
