@@ -12,8 +12,8 @@ use Rattle.trust_types.proofs.TableTests.{list_any-IsTable, rises-IsTable}
 use Rattle.text_lines.proofs.Decimals.{number-decimal}
 use Rattle.text_lines.proofs.Joining.{words-join, is_line-join}
 use Rattle.site_lines.specs.Site.{numbers, judged, table_in, caps_line}
-use Rattle.site_text.specs.Canonical.{caps_words}
-use Rattle.site_text.proofs.Wording.{IsSmall, small-IsTable, IsWorded, caps-worded}
+use Rattle.audit_text.specs.Canonical.{caps_words}
+use Rattle.audit_text.proofs.Wording.{IsSmall, small-IsTable, IsWorded, caps-worded}
 
 numbers-decimals : (entries : List ℕ) → All IsSmall entries → numbers (map decimal entries) ≡ Ok entries
 numbers-decimals [] small = refl

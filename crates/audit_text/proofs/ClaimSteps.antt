@@ -12,17 +12,17 @@ use Rattle.trust_types.specs.NameLists.{number_of}
 use Rattle.trust_types.specs.Lines.{place, same_node, is_before}
 use Rattle.trust_types.specs.Proven.{Lists, AreInOrder}
 use Rattle.text_lines.specs.Words.{is_word}
-use Rattle.text_lines.specs.Steps.{or_fault}
+use Rattle.std.specs.Option.{ok_or}
 use Rattle.text_lines.specs.Reading.{reading}
 use Rattle.text_lines.proofs.Joining.{words-join, is_line-join, reading-append, reading-each}
-use Rattle.claim_lines.specs.Claim.{Claim, nothing, units_of, is_of_pair, is_placed, flow_line, placed_node, pass_line, full_line, claim_form, claim_line}
+use Rattle.claim_lines.specs.Claim.{Claim, nothing, units_of, is_of_pair, is_placed, with_node, flow_line, node_line, claim_form, claim_line}
 use Rattle.trust_types.specs.NodeWords.{is_node, node_of}
 use Rattle.trust_types.specs.NodeWords.{name_of, node_name}
 use Rattle.roster_form.specs.LevelRosters.{AreAmong}
-use Rattle.site_text.specs.Canonical.{flow_words, pass_words, full_words}
-use Rattle.site_text.proofs.Spelling.{AreNames, name_at, number_of-name, is_node-name, node_of-name, units_of-decimal}
-use Rattle.site_text.proofs.Wording.{spaced, flow-worded, pass-worded, full-worded}
-use Rattle.site_text.proofs.Placed.{IsPlaced, placed, of_all, of_pairs}
+use Rattle.audit_text.specs.Canonical.{flow_words, pass_words, full_words}
+use Rattle.audit_text.proofs.Spelling.{AreNames, name_at, number_of-name, is_node-name, node_of-name, units_of-decimal}
+use Rattle.audit_text.proofs.Wording.{spaced, flow-worded, pass-worded, full-worded}
+use Rattle.audit_text.proofs.Placed.{IsPlaced, placed, of_all, of_pairs}
 
 abbrev pub claimed : List FlowLine → List Node → List Node → Claim
 claimed flow pass full = record { flow = flow; pass = pass; full = full }
@@ -40,7 +40,7 @@ flow-form : (names : List (List ℕ)) (c : Claim) (giver taker units : List ℕ)
     claim_form names c (codes "flow" ∷ giver ∷ taker ∷ units ∷ []) ≡ Ok (claimed (c.flow ++ record { from = x; to = b; units = n } ∷ []) c.pass c.full)
 unfolding claim_form flow_line
 flow-form names c giver taker units x b n is_giver is_taker found_giver found_taker written new =
-    rw (or_fault, written, is_giver, is_taker, found_giver, found_taker, new) refl
+    rw (ok_or, written, is_giver, is_taker, found_giver, found_taker, new) refl
 
 -- What the lists of a proof keep, as its lines are read.
 pub record AreWritable (n : ℕ) (r : Lists) : Type 0 where
@@ -64,19 +64,18 @@ flow-step names r before l rest are can e =
     (is_node-name names are l.from giver) (name_at names are l.to taker) (node_of-name names are l.from giver) (number_of-name names are l.to taker)
     (units_of-decimal l.units small some) new)
 
-placed-form : (names : List (List ℕ)) (c : Claim) (word : List ℕ) (x : Node) → is_node word ≡ true → node_of names word ≡ Some x → is_placed c x ≡ false → placed_node names c word ≡ Ok x
-unfolding placed_node
-placed-form names c word x is found new = rw (is, or_fault, found, new) refl
+node-form : (names : List (List ℕ)) (passes : Bool) (c : Claim) (word : List ℕ) (x : Node) → is_node word ≡ true → node_of names word ≡ Some x → is_placed c x ≡ false →
+    node_line names passes c (word ∷ []) ≡ Ok (with_node passes c x)
+unfolding node_line
+node-form names passes c word x is found new = rw (is, ok_or, found, new) refl
 
-pass-form : (names : List (List ℕ)) (c : Claim) (word : List ℕ) (x : Node) → placed_node names c word ≡ Ok x →
-    claim_form names c (codes "pass" ∷ word ∷ []) ≡ Ok (claimed c.flow (c.pass ++ x ∷ []) c.full)
-unfolding claim_form pass_line
-pass-form names c word x e = rw e refl
+pass-form : (names : List (List ℕ)) (c : Claim) (word : List ℕ) → claim_form names c (codes "pass" ∷ word ∷ []) ≡ node_line names true c (word ∷ [])
+unfolding claim_form
+pass-form names c word = refl
 
-full-form : (names : List (List ℕ)) (c : Claim) (word : List ℕ) (x : Node) → placed_node names c word ≡ Ok x →
-    claim_form names c (codes "full" ∷ word ∷ []) ≡ Ok (claimed c.flow c.pass (c.full ++ x ∷ []))
-unfolding claim_form full_line
-full-form names c word x e = rw e refl
+full-form : (names : List (List ℕ)) (c : Claim) (word : List ℕ) → claim_form names c (codes "full" ∷ word ∷ []) ≡ node_line names false c (word ∷ [])
+unfolding claim_form
+full-form names c word = refl
 
 other_node : (x y : Node) → place y < place x → same_node x y ≡ false
 other_node x y before = grind (arith, nat_tests)
@@ -92,8 +91,8 @@ pass-step names r before x rest are can e =
     let new : is_placed (claimed r.flow before []) x ≡ false =
     rw (not_among x before (of_pairs (λ y z. place y < place z) before x r.pass at can.order.pass)) refl in
     claim_line-join names (claimed r.flow before []) (claimed r.flow (before ++ x ∷ []) []) (pass_words names x) (omega arith) (pass-worded names are x among)
-    (pass-form names (claimed r.flow before []) (node_name names x) x
-    (placed-form names (claimed r.flow before []) (node_name names x) x (is_node-name names are x among) (node_of-name names are x among) new))
+    (pass-form names (claimed r.flow before []) (node_name names x)
+    ∙ node-form names true (claimed r.flow before []) (node_name names x) x (is_node-name names are x among) (node_of-name names are x among) new)
 
 same_place : (x y : Node) → place x ≡ place y → y ≡ x
 same_place Root Root e = refl
@@ -117,8 +116,8 @@ full-step names r before x rest are can e =
     let new : is_placed (claimed r.flow r.pass before) x ≡ false =
     rw (elsewhere, not_among x before (of_pairs (λ y z. place y < place z) before x r.full at can.order.full)) refl in
     claim_line-join names (claimed r.flow r.pass before) (claimed r.flow r.pass (before ++ x ∷ [])) (full_words names x) (omega arith) (full-worded names are x among)
-    (full-form names (claimed r.flow r.pass before) (node_name names x) x
-    (placed-form names (claimed r.flow r.pass before) (node_name names x) x (is_node-name names are x among) (node_of-name names are x among) new))
+    (full-form names (claimed r.flow r.pass before) (node_name names x)
+    ∙ node-form names false (claimed r.flow r.pass before) (node_name names x) x (is_node-name names are x among) (node_of-name names are x among) new)
 
 -- The lines of a claim, but for the first.
 abbrev pub claim_lines : List (List ℕ) → Lists → List (List ℕ)

@@ -6,14 +6,15 @@ use Rattle.std.proofs.lemmas.List.{length-append, get_or_append_left, get_or-app
 use Rattle.std.proofs.lemmas.List.Elements.{All-contains, filter_passes, Contains-append_left, Contains-append_right, Contains-append_cases, Contains-push, Contains-get_or}
 use Rattle.std.proofs.lemmas.List.FromFn.{length-range_with_len, get_or-range_with_len, length-map-range_with_len, get_or-map-range_with_len}
 use Rattle.std.proofs.lemmas.List.Kept.{IsStrictlyIncreasing-filter}
+use Rattle.trust_types.specs.declared.limits.TheConstants.{MOST_CERTS}
 use Rattle.trust_types.specs.declared.graphs.Cert.{Cert}
 use Rattle.trust_types.specs.Levels.{IsGrade}
 use Rattle.trust_types.specs.Graph.{Certificates}
 use Rattle.trust_types.specs.Sum.{sum_below}
 use Rattle.trust_types.specs.Rows.{GivesEachOnce}
 use Rattle.trust_types.specs.Certs.{IsCertAmong, IsBefore, CanStand, IsMadeOf}
-use Rattle.site_text.specs.Writing.{below, seeds_below, first_given, certs_below}
-use Rattle.site_text.proofs.Written.{certs_more, more_seeds, same_seeds}
+use Rattle.audit_text.specs.inner.Writing.{below, seeds_below, first_given, certs_below}
+use Rattle.audit_text.proofs.Written.{certs_more, more_seeds, same_seeds}
 
 below-rises : (n : ℕ) → IsStrictlyIncreasing (below n)
 below-rises n k inside =
@@ -138,7 +139,7 @@ module _ (g : Certificates) (degree : ℕ → ℕ) (given : ℕ → ℕ → Cert
     pub each : GivesEachOnce g degree given
     pub seeds : (a : ℕ) → IsTrue (g.is_seed a) → a < g.accounts
     pub within : (a b : ℕ) → IsGrade (g.standing a b) → (a < g.accounts) × (b < g.accounts)
-    pub few : sum_below g.accounts degree ≤ 2000000
+    pub few : sum_below g.accounts degree ≤ MOST_CERTS
 
   pub can-stand : AreReaders → CanStand g.accounts (certs_below degree given g.accounts)
   can-stand are = record {

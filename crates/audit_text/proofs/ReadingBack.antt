@@ -20,18 +20,21 @@ use Rattle.trust_types.specs.Tables.{IsTable}
 use Rattle.trust_types.specs.Kept.{accounts, kept_certificates}
 use Rattle.trust_types.specs.Lines.{sides_of, same_node}
 use Rattle.trust_types.specs.Proven.{Lists}
+use Rattle.trust_types.specs.declared.records.Record.{Record}
 use Rattle.text_lines.specs.Words.{lines}
+use Rattle.text_lines.specs.Reading.{reading}
+use Rattle.site_lines.specs.Site.{caps_line, site_line}
 use Rattle.text_lines.proofs.Joining.{words-join, is_line-join, goes_on-join, lines-ended, and_true, both, not_true}
 use Rattle.claim_lines.specs.Claim.{Claim, is_level_line, begins_with_level, level_line, has_root}
-use Rattle.site_text.specs.Site.{SiteText, ProofText, site_of, site_part, claim_part, claim_of, proof_of, proof}
+use Rattle.site_text.specs.Site.{ProofText, site_part, claim_part, claim_of, proof_of, proof}
 use Rattle.site_text.specs.View.{View}
-use Rattle.site_text.specs.Canonical.{line, caps_words, account_words, seed_words, cert_words, level_words, flow_words, pass_words, full_words, site_words, claim_words, IsCanonical, IsReadAs}
-use Rattle.site_text.proofs.Spelling.{AreNames}
-use Rattle.site_text.proofs.Wording.{spaced, IsWorded, AreWorded, all_words, all-worded, caps-worded, account-worded, seed-worded, cert-worded, level-worded, flow-worded, pass-worded, full-worded}
-use Rattle.site_text.proofs.Recorded.{records, accounts-records, certificates-records}
-use Rattle.site_text.proofs.SiteSteps.{site_lines, reading-site}
-use Rattle.site_text.proofs.ClaimSteps.{AreWritable, claimed, claim_lines, reading-claim}
-use Rattle.site_text.proofs.CapsLine.{caps_line-words}
+use Rattle.audit_text.specs.Canonical.{line, caps_words, account_words, seed_words, cert_words, level_words, flow_words, pass_words, full_words, site_words, claim_words, IsCanonical, IsReadAs}
+use Rattle.audit_text.proofs.Spelling.{AreNames}
+use Rattle.audit_text.proofs.Wording.{spaced, IsWorded, AreWorded, all_words, all-worded, caps-worded, account-worded, seed-worded, cert-worded, level-worded, flow-worded, pass-worded, full-worded}
+use Rattle.audit_text.proofs.Recorded.{records, accounts-records, certificates-records}
+use Rattle.audit_text.proofs.SiteSteps.{site_lines, reading-site}
+use Rattle.audit_text.proofs.ClaimSteps.{AreWritable, claimed, claim_lines, reading-claim}
+use Rattle.audit_text.proofs.CapsLine.{caps_line-words}
 
 -- The lines of a text of such lines.
 lines-words : (wss : List (List (List ℕ))) → AreWorded wss → lines (flat_map line wss) ≡ map spaced wss
@@ -55,17 +58,17 @@ pub record IsWritten (v : View) (level : Level) (r : Lists) : Type 0 where
 seeds-within : (v : View) (level : Level) (r : Lists) (text : List ℕ) → IsWritten v level r → (c : IsCanonical v level r text) → All (λ a. a < length v.names) c.seeds
 seeds-within v level r text is c k d inside = is.seeds (get_or c.seeds k d) ((c.graph.seeded (get_or c.seeds k d)).1 (Contains-get_or c.seeds k d inside))
 
-site-worded : (table : List ℕ) (names : List (List ℕ)) (seeds : List ℕ) (certs : List Cert) → IsTable table → AreNames names → All (λ a. a < length names) seeds → CanStand (length names) certs →
-    AreWorded (site_words table names seeds certs)
-site-worded table names seeds certs is are within stand =
+-- The lines of a site behind its table.
+abbrev record_words : List (List ℕ) → List ℕ → List Cert → List (List (List ℕ))
+record_words names seeds certs = map account_words names ++ map (seed_words names) seeds ++ map (cert_words names) certs
+
+records-worded : (names : List (List ℕ)) (seeds : List ℕ) (certs : List Cert) → AreNames names → All (λ a. a < length names) seeds → CanStand (length names) certs → AreWorded (record_words names seeds certs)
+records-worded names seeds certs are within stand =
     let of_accounts : AreWorded (map account_words names) = all-worded account_words names (λ k d inside. account-worded (get_or names k d) (are.named k d inside)) in
     let of_seeds : AreWorded (map (seed_words names) seeds) = all-worded (seed_words names) seeds (λ k d inside. seed-worded names are (get_or seeds k d) (within k d inside)) in
     let of_certs : AreWorded (map (cert_words names) certs) = all-worded (cert_words names) certs (λ k d inside. cert-worded names are (get_or certs k d) (stand.among k d inside)) in
-    list_all-append all_words ((caps_words table ∷ map account_words names) ++ map (seed_words names) seeds) (map (cert_words names) certs)
-    ∙ and_true _ _
-    (list_all-append all_words (caps_words table ∷ map account_words names) (map (seed_words names) seeds)
-    ∙ and_true _ _ (and_true (all_words (caps_words table)) (list_all all_words (map account_words names)) (caps-worded table is) of_accounts) of_seeds)
-    of_certs
+    list_all-append all_words (map account_words names ++ map (seed_words names) seeds) (map (cert_words names) certs)
+    ∙ and_true _ _ (list_all-append all_words (map account_words names) (map (seed_words names) seeds) ∙ and_true _ _ of_accounts of_seeds) of_certs
 
 claim-worded : (names : List (List ℕ)) (level : Level) (r : Lists) → AreNames names → AreWritable (length names) r → AreWorded (claim_words names level r)
 claim-worded names level r are can =
@@ -87,19 +90,12 @@ all_other : {X : Type 0} (words_of : X → List (List ℕ)) → ((x : X) → is_
 all_other words_of each [] = refl
 all_other words_of each (x ∷ xs) = and_true (is_other (words_of x)) (list_all is_other (map words_of xs)) (each x) (all_other words_of each xs)
 
-caps-other : (table : List ℕ) → is_other (caps_words table) ≡ true
-caps-other table =
-    let some : nat_lt 0 (length (caps_words table)) ≡ true = grind (arith, nat_tests) in
-    and_true (nat_lt 0 (length (caps_words table))) _ some refl
-
-site-other : (table : List ℕ) (names : List (List ℕ)) (seeds : List ℕ) (certs : List Cert) → list_all is_other (site_words table names seeds certs) ≡ true
-site-other table names seeds certs =
-    list_all-append is_other ((caps_words table ∷ map account_words names) ++ map (seed_words names) seeds) (map (cert_words names) certs)
+records-other : (names : List (List ℕ)) (seeds : List ℕ) (certs : List Cert) → list_all is_other (record_words names seeds certs) ≡ true
+records-other names seeds certs =
+    list_all-append is_other (map account_words names ++ map (seed_words names) seeds) (map (cert_words names) certs)
     ∙ and_true _ _
-    (list_all-append is_other (caps_words table ∷ map account_words names) (map (seed_words names) seeds)
-    ∙ and_true _ _
-    (and_true (is_other (caps_words table)) (list_all is_other (map account_words names)) (caps-other table) (all_other account_words (λ name. refl) names))
-    (all_other (seed_words names) (λ a. refl) seeds))
+    (list_all-append is_other (map account_words names) (map (seed_words names) seeds)
+    ∙ and_true _ _ (all_other account_words (λ name. refl) names) (all_other (seed_words names) (λ a. refl) seeds))
     (all_other (cert_words names) (λ c. refl) certs)
 
 other_line : (ws : List (List ℕ)) → IsWorded ws → is_other ws ≡ true → is_level_line (spaced ws) ≡ false
@@ -137,11 +133,10 @@ some_side false false inside = absurd (inside refl)
 has_root-sides : (r : Lists) → sides_of r.pass r.full Root ≢ Outside → has_root (claimed r.flow r.pass r.full) ≡ true
 has_root-sides r inside = some_side (list_any (same_node Root) r.pass) (list_any (same_node Root) r.full) inside
 
-site-lines : (table : List ℕ) (names : List (List ℕ)) (seeds : List ℕ) (certs : List Cert) →
-    map spaced (site_words table names seeds certs) ≡ spaced (caps_words table) ∷ site_lines names seeds certs
-site-lines table names seeds certs =
-    map-append spaced ((caps_words table ∷ map account_words names) ++ map (seed_words names) seeds) (map (cert_words names) certs)
-    ∙ ap (λ ls. ls ++ map spaced (map (cert_words names) certs)) (map-append spaced (caps_words table ∷ map account_words names) (map (seed_words names) seeds))
+record-lines : (names : List (List ℕ)) (seeds : List ℕ) (certs : List Cert) → map spaced (record_words names seeds certs) ≡ site_lines names seeds certs
+record-lines names seeds certs =
+    map-append spaced (map account_words names ++ map (seed_words names) seeds) (map (cert_words names) certs)
+    ∙ ap (λ ls. ls ++ map spaced (map (cert_words names) certs)) (map-append spaced (map account_words names) (map (seed_words names) seeds))
     ∙ rw (map-map spaced account_words names, map-map spaced (seed_words names) seeds, map-map spaced (cert_words names) certs) refl
 
 claim-lines : (names : List (List ℕ)) (level : Level) (r : Lists) → map spaced (claim_words names level r) ≡ spaced (level_words level) ∷ claim_lines names r
@@ -150,29 +145,23 @@ claim-lines names level r =
     ∙ ap (λ ls. ls ++ map spaced (map (full_words names) r.full)) (map-append spaced (level_words level ∷ map (flow_words names) r.flow) (map (pass_words names) r.pass))
     ∙ rw (map-map spaced (flow_words names) r.flow, map-map spaced (pass_words names) r.pass, map-map spaced (full_words names) r.full) refl
 
-site_of-lines : (table : List ℕ) (names : List (List ℕ)) (seeds : List ℕ) (certs : List Cert) → IsTable table → AreNames names → All (λ a. a < length names) seeds → IsStrictlyIncreasing seeds →
-    CanStand (length names) certs → site_of (spaced (caps_words table) ∷ site_lines names seeds certs) ≡ Ok (record { table = table; records = records names seeds certs })
-unfolding site_of
-site_of-lines table names seeds certs is are within rises stand =
-    rw (caps_line-words table is, reading-site names seeds certs are within rises stand) refl
-
 claim_of-lines : (names known : List (List ℕ)) (level : Level) (r : Lists) (n : ℕ) → known ≡ names → IsGrade level → AreNames names → AreWritable (length names) r → sides_of r.pass r.full Root ≢ Outside →
     claim_of known n (spaced (level_words level) ∷ claim_lines names r) ≡ Ok (level, claimed r.flow r.pass r.full)
 unfolding claim_of
 claim_of-lines names known level r n same grade are can root =
     rw (same, level_line-words level grade, reading-claim names r (n + 1) are can, has_root-sides r root) refl
 
-proof_of-parts : (wss : List (List (List ℕ))) (first : List ℕ) (others : List (List ℕ)) (site : SiteText) (level : Level) (claim : Claim) → AreWorded wss → list_all is_other wss ≡ true →
-    is_level_line first ≡ true → site_of (map spaced wss) ≡ Ok site → ((n : ℕ) → claim_of (accounts site.records) n (first ∷ others) ≡ Ok (level, claim)) →
-    proof_of (map spaced wss ++ first ∷ others) ≡ Ok (record { site = site; level = level; claim = claim })
+proof_of-parts : (front table : List ℕ) (wss : List (List (List ℕ))) (first : List ℕ) (others : List (List ℕ)) (k : List Record) (level : Level) (claim : Claim) → AreWorded wss → list_all is_other wss ≡ true →
+    is_level_line first ≡ true → caps_line front ≡ Ok table → reading site_line 2 [] (map spaced wss) ≡ Ok k → ((n : ℕ) → claim_of (accounts k) n (first ∷ others) ≡ Ok (level, claim)) →
+    proof_of (front ∷ map spaced wss ++ first ∷ others) ≡ Ok (record { site = record { table = table; records = k }; level = level; claim = claim })
 unfolding proof_of
-proof_of-parts wss first others site level claim worded other is read claims =
+proof_of-parts front table wss first others k level claim worded other is caps read claims =
     let at : position_or_len is_level_line (map spaced wss ++ first ∷ others) ≡ length (map spaced wss) = position-level wss first others worded other is in
     let site_is : site_part (map spaced wss ++ first ∷ others) ≡ map spaced wss =
     ap (λ k. take k (map spaced wss ++ first ∷ others)) at ∙ take-append_seam (map spaced wss) (first ∷ others) in
     let claim_is : claim_part (map spaced wss ++ first ∷ others) ≡ first ∷ others =
     ap (λ k. drop k (map spaced wss ++ first ∷ others)) at ∙ drop-append_seam (map spaced wss) (first ∷ others) in
-    rw (site_is, claim_is, read, claims (length (map spaced wss) + 1)) refl
+    rw (caps, site_is, claim_is, read, claims (length (map spaced wss) + 2)) refl
 
 -- The proof that a canonical text is read as.
 abbrev written : List ℕ → List (List ℕ) → List ℕ → List Cert → Level → Lists → ProofText
@@ -185,18 +174,20 @@ written table names seeds certs level r = record {
 proof-canonical : (v : View) (level : Level) (r : Lists) (text : List ℕ) → IsWritten v level r → (c : IsCanonical v level r text) → proof text ≡ Ok (written v.table v.names c.seeds c.certs level r)
 proof-canonical v level r text is c =
     let within : All (λ a. a < length v.names) c.seeds = seeds-within v level r text is c in
-    let worded : AreWorded (site_words v.table v.names c.seeds c.certs) = site-worded v.table v.names c.seeds c.certs is.table is.names within c.stand in
-    let all : AreWorded (site_words v.table v.names c.seeds c.certs ++ claim_words v.names level r) =
-    list_all-append all_words (site_words v.table v.names c.seeds c.certs) (claim_words v.names level r) ∙ and_true _ _ worded (claim-worded v.names level r is.names is.lists) in
-    let lines_are : lines text ≡ map spaced (site_words v.table v.names c.seeds c.certs) ++ spaced (level_words level) ∷ claim_lines v.names r =
-    ap lines c.written ∙ lines-words (site_words v.table v.names c.seeds c.certs ++ claim_words v.names level r) all
-    ∙ map-append spaced (site_words v.table v.names c.seeds c.certs) (claim_words v.names level r)
-    ∙ ap (λ ls. map spaced (site_words v.table v.names c.seeds c.certs) ++ ls) (claim-lines v.names level r) in
-    let site_is : site_of (map spaced (site_words v.table v.names c.seeds c.certs)) ≡ Ok (record { table = v.table; records = records v.names c.seeds c.certs }) =
-    ap site_of (site-lines v.table v.names c.seeds c.certs) ∙ site_of-lines v.table v.names c.seeds c.certs is.table is.names within c.rises c.stand in
+    let words : List (List (List ℕ)) = record_words v.names c.seeds c.certs in
+    let worded : AreWorded words = records-worded v.names c.seeds c.certs is.names within c.stand in
+    let all : AreWorded ((caps_words v.table ∷ words) ++ claim_words v.names level r) =
+    list_all-append all_words (caps_words v.table ∷ words) (claim_words v.names level r)
+    ∙ and_true _ _ (and_true (all_words (caps_words v.table)) (list_all all_words words) (caps-worded v.table is.table) worded) (claim-worded v.names level r is.names is.lists) in
+    let lines_are : lines text ≡ spaced (caps_words v.table) ∷ map spaced words ++ spaced (level_words level) ∷ claim_lines v.names r =
+    ap lines c.written ∙ lines-words ((caps_words v.table ∷ words) ++ claim_words v.names level r) all
+    ∙ map-append spaced (caps_words v.table ∷ words) (claim_words v.names level r)
+    ∙ ap (λ ls. map spaced (caps_words v.table ∷ words) ++ ls) (claim-lines v.names level r) in
+    let read : reading site_line 2 [] (map spaced words) ≡ Ok (records v.names c.seeds c.certs) =
+    ap (reading site_line 2 []) (record-lines v.names c.seeds c.certs) ∙ reading-site v.names c.seeds c.certs is.names within c.rises c.stand in
     ap proof_of lines_are
-    ∙ proof_of-parts (site_words v.table v.names c.seeds c.certs) (spaced (level_words level)) (claim_lines v.names r) (record { table = v.table; records = records v.names c.seeds c.certs })
-    level (claimed r.flow r.pass r.full) worded (site-other v.table v.names c.seeds c.certs) (is_level_line-words level) site_is
+    ∙ proof_of-parts (spaced (caps_words v.table)) v.table words (spaced (level_words level)) (claim_lines v.names r) (records v.names c.seeds c.certs) level (claimed r.flow r.pass r.full) worded
+    (records-other v.names c.seeds c.certs) (is_level_line-words level) (caps_line-words v.table is.table) read
     (λ n. claim_of-lines v.names (accounts (records v.names c.seeds c.certs)) level r n (accounts-records v.names c.seeds c.certs) is.grade is.names is.lists is.root)
 
 -- The law of reading back.

@@ -8,34 +8,34 @@ use Rattle.std.proofs.lemmas.List.Folds.{list_any_none}
 use Rattle.std.proofs.lemmas.List.Kept.{AllPairs-from_increasing}
 use Rattle.trust_types.specs.declared.levels.Level.{Level}
 use Rattle.trust_types.specs.declared.graphs.Cert.{Cert}
+use Rattle.trust_types.specs.declared.limits.TheConstants.{MOST_ACCOUNTS, MOST_CERTS}
 use Rattle.trust_types.specs.declared.records.Record.{Record}
 use Rattle.trust_types.specs.Levels.{level_name}
 use Rattle.trust_types.specs.Names.{is_name, IsName}
 use Rattle.trust_types.specs.NameLists.{number_of}
 use Rattle.trust_types.specs.Certs.{CanStand, IsCertAmong}
 use Rattle.trust_types.specs.Kept.{accounts, is_seed, certs_of, standing_count}
-use Rattle.trust_types.proofs.Indexing.{not_found}
 use Rattle.text_lines.specs.Words.{is_word}
 use Rattle.text_lines.specs.Reading.{reading}
 use Rattle.text_lines.proofs.Joining.{words-join, is_line-join, reading-append, reading-each}
 use Rattle.site_lines.specs.Site.{join, seed, cert, account_line, seed_line, cert_line, form, site_line}
 use Rattle.trust_types.specs.NodeWords.{name_of}
-use Rattle.site_text.specs.Canonical.{account_words, seed_words, cert_words}
-use Rattle.site_text.proofs.Spelling.{AreNames, name_at, number_of-name, level_of-name}
-use Rattle.site_text.proofs.Wording.{spaced, account-worded, seed-worded, cert-worded}
-use Rattle.site_text.proofs.Placed.{IsPlaced, placed, of_all, of_pairs}
-use Rattle.site_text.proofs.Recorded.{records, cert_record, accounts-records, certs-records, is_seed-records, is_among, standing_count-le}
+use Rattle.audit_text.specs.Canonical.{account_words, seed_words, cert_words}
+use Rattle.audit_text.proofs.Spelling.{AreNames, name_at, number_of-name, not_found, level_of-name}
+use Rattle.audit_text.proofs.Wording.{spaced, account-worded, seed-worded, cert-worded}
+use Rattle.audit_text.proofs.Placed.{IsPlaced, placed, of_all, of_pairs}
+use Rattle.audit_text.proofs.Recorded.{records, cert_record, accounts-records, certs-records, is_seed-records, is_among, standing_count-le}
 
 pub site_line-join : (k : List Record) (ws : List (List ℕ)) (x : Record) → 0 < length ws → list_all is_word ws ≡ true → form k ws ≡ Ok x →
     site_line k (spaced ws) ≡ Ok (k ++ x ∷ [])
 unfolding site_line
 site_line-join k ws x some each e = rw (is_line-join ws some each, words-join ws some each, e) refl
 
-account-form : (k : List Record) (name : List ℕ) → IsName name → number_of (accounts k) name ≡ None → length (accounts k) < 100000 → form k (account_words name) ≡ Ok (join name)
+account-form : (k : List Record) (name : List ℕ) → IsName name → number_of (accounts k) name ≡ None → length (accounts k) < MOST_ACCOUNTS → form k (account_words name) ≡ Ok (join name)
 unfolding form account_line
 account-form k name named new few =
     let is : is_name name ≡ true = named in
-    let room : nat_le 100000 (length (accounts k)) ≡ false = grind (arith, nat_tests) in
+    let room : nat_lt (length (accounts k)) MOST_ACCOUNTS ≡ true = grind (arith, nat_tests) in
     rw (is, new, room) refl
 
 records-account : (before : List (List ℕ)) (name : List ℕ) → records before [] [] ++ join name ∷ [] ≡ records (before ++ name ∷ []) [] []
@@ -63,7 +63,7 @@ account-step names before name rest are e =
     let known : accounts (records before [] []) ≡ before = accounts-records before [] [] in
     let new : number_of (accounts (records before [] [])) name ≡ None =
     ap (λ ns. number_of ns name) known ∙ not_found before name (of_pairs (λ a b. a ≢ b) before name names at are.apart) in
-    let few : length (accounts (records before [] [])) < 100000 = rw known (omega (arith, are.few, at.within)) in
+    let few : length (accounts (records before [] [])) < MOST_ACCOUNTS = rw known (omega (arith, are.few, at.within)) in
     site_line-join (records before [] []) (account_words name) (join name) (omega arith) (account-worded name named) (account-form (records before [] []) name named new few)
     ∙ ap Ok (records-account before name)
 
@@ -90,13 +90,13 @@ seed-step names seeds before a rest are within rises e =
     ∙ ap Ok (records-seed names before a)
 
 cert-form : (k : List Record) (giver taker : List ℕ) (a b : ℕ) (level : Level) → IsName giver → IsName taker → number_of (accounts k) giver ≡ Some a → number_of (accounts k) taker ≡ Some b →
-    a ≢ b → standing_count (certs_of (k ++ cert a b level ∷ [])) ≤ 2000000 → form k (codes "cert" ∷ giver ∷ taker ∷ level_name level ∷ []) ≡ Ok (cert a b level)
+    a ≢ b → standing_count (certs_of k ++ record { from = a; to = b; level = level } ∷ []) ≤ MOST_CERTS → form k (codes "cert" ∷ giver ∷ taker ∷ level_name level ∷ []) ≡ Ok (cert a b level)
 unfolding form cert_line
 cert-form k giver taker a b level named_giver named_taker found_giver found_taker others few =
     let is_giver : is_name giver ≡ true = named_giver in
     let is_taker : is_name taker ≡ true = named_taker in
     let apart : (a == b) ≡ false = grind (arith, nat_tests, others) in
-    let room : nat_lt 2000000 (standing_count (certs_of (k ++ cert a b level ∷ []))) ≡ false = grind (arith, nat_tests) in
+    let room : nat_le (standing_count (certs_of k ++ record { from = a; to = b; level = level } ∷ [])) MOST_CERTS ≡ true = grind (arith, nat_tests) in
     rw (level_of-name level, is_giver, is_taker, found_giver, found_taker, apart, room) refl
 
 cert-step : (names : List (List ℕ)) (seeds : List ℕ) (certs before : List Cert) (c : Cert) (rest : List Cert) → AreNames names → CanStand (length names) certs →
@@ -110,9 +110,8 @@ cert-step names seeds certs before c rest are stand e =
     ap (λ ns. number_of ns (name_of names c.from)) (accounts-records names seeds before) ∙ number_of-name names are c.from among.giver in
     let found_taker : number_of (accounts (records names seeds before)) (name_of names c.to) ≡ Some c.to =
     ap (λ ns. number_of ns (name_of names c.to)) (accounts-records names seeds before) ∙ number_of-name names are c.to among.taker in
-    let all : certs_of (records names seeds before ++ cert_record c ∷ []) ≡ before ++ c ∷ [] =
-    ap certs_of (records-cert names seeds before c) ∙ certs-records names seeds (before ++ c ∷ []) in
-    let few : standing_count (certs_of (records names seeds before ++ cert_record c ∷ [])) ≤ 2000000 =
+    let all : certs_of (records names seeds before) ++ c ∷ [] ≡ before ++ c ∷ [] = ap (λ (certs : List Cert). certs ++ c ∷ []) (certs-records names seeds before) in
+    let few : standing_count (certs_of (records names seeds before) ++ c ∷ []) ≤ MOST_CERTS =
     rw all (omega (arith, standing_count-le (before ++ c ∷ []), length_push before c, at.within, stand.few)) in
     site_line-join (records names seeds before) (cert_words names c) (cert_record c) (omega arith) (cert-worded names are c among)
     (cert-form (records names seeds before) (name_of names c.from) (name_of names c.to) c.from c.to c.level named_giver named_taker found_giver found_taker among.others few)

@@ -5,6 +5,7 @@ use Rattle.std.specs.Str.{bytes_eq}
 use Rattle.std.proofs.lemmas.Bool.{false≢true}
 use Rattle.std.proofs.lemmas.List.Sums.{position_or_len_is}
 use Rattle.std.proofs.lemmas.Slice.Eq.{bytes_eq-Decides}
+use Rattle.trust_types.specs.declared.limits.TheConstants.{MOST_ACCOUNTS}
 use Rattle.trust_types.specs.declared.levels.Level.{Level}
 use Rattle.trust_types.specs.declared.levels.Level.TheVariants.{Observer, Apprentice, Journeyer, Master}
 use Rattle.trust_types.specs.declared.accounts.Node.{Node}
@@ -37,7 +38,7 @@ is_dash-name word named = unequal word (codes "-") (is_dash word) refl (λ same.
 pub record AreNames (names : List (List ℕ)) : Type 0 where
   pub named : All IsName names
   pub apart : AreApart names
-  pub few : length names ≤ 100000
+  pub few : length names ≤ MOST_ACCOUNTS
 
 pub name_at : (names : List (List ℕ)) → AreNames names → (a : ℕ) → a < length names → IsName (name_of names a)
 name_at names are a below = are.named a [] below
@@ -52,6 +53,14 @@ number_of-name names are a below =
     (λ k before. unequal (get_or names k []) (get_or names a []) (bytes_eq (get_or names k []) (get_or names a [])) refl (are.apart k a [] before below))
     (λ _. (bytes_eq-Decides (name_of names a) (name_of names a)).1 refl) in
     found_by _ (length names) a at below
+
+none_by : (p l : ℕ) → p ≡ l → cond (nat_lt p l) (Some p) None ≡ None
+none_by p l e = grind arith
+
+pub not_found : (names : List (List ℕ)) (name : List ℕ) → All (λ other. other ≢ name) names → number_of names name ≡ None
+not_found names name differ =
+    none_by _ (length names) (position_or_len_is (λ other. bytes_eq other name) names (length names) [] (omega arith)
+    (λ k before. unequal (get_or names k []) name (bytes_eq (get_or names k []) name) refl (differ k [] before)) (λ less. absurd (omega arith)))
 
 -- Nodes among the accounts.
 pub node_word : (names : List (List ℕ)) → AreNames names → (x : Node) → place x ≤ length names → is_word (node_name names x) ≡ true

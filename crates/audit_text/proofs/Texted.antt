@@ -5,6 +5,7 @@ use Rattle.std.proofs.lemmas.Bool.{cases_lt, false≢true}
 use Rattle.std.proofs.lemmas.Grind.{flat_map-append}
 use Rattle.std.proofs.lemmas.List.{get_or_past}
 use Rattle.std.proofs.lemmas.List.Folds.{flat_map-map}
+use Rattle.trust_types.specs.declared.limits.TheConstants.{MOST_ACCOUNTS, MOST_CERTS}
 use Rattle.trust_types.specs.declared.levels.Level.{Level}
 use Rattle.trust_types.specs.declared.levels.Level.TheVariants.{Observer}
 use Rattle.trust_types.specs.declared.accounts.Node.{Node}
@@ -25,10 +26,10 @@ use Rattle.trust_types.proofs.RowsOf.{taker_of_standing}
 use Rattle.frozen.specs.Revision.{Revision, certificates}
 use Rattle.site_text.specs.View.{of_frozen}
 use Rattle.roster_form.specs.LevelRosters.{AreAmong}
-use Rattle.site_text.specs.Canonical.{line, caps_words, account_words, seed_words, cert_words, level_words, flow_words, pass_words, full_words, site_words, claim_words, IsCanonical, IsReadAs}
-use Rattle.site_text.specs.Writing.{seeds_below, certs_below, lines_for}
-use Rattle.site_text.proofs.GraphLists.{AreReaders, can-stand, made-of, seeds-rise}
-use Rattle.site_text.proofs.ReadingBack.{IsWritten, read_back}
+use Rattle.audit_text.specs.Canonical.{line, caps_words, account_words, seed_words, cert_words, level_words, flow_words, pass_words, full_words, site_words, claim_words, IsCanonical, IsReadAs}
+use Rattle.audit_text.specs.inner.Writing.{seeds_below, certs_below, lines_for}
+use Rattle.audit_text.proofs.GraphLists.{AreReaders, can-stand, made-of, seeds-rise}
+use Rattle.audit_text.proofs.ReadingBack.{IsWritten, read_back}
 
 three : (f : List (List ℕ) → List ℕ) (first : List (List ℕ)) (xs ys zs : List (List (List ℕ))) →
     flat_map f (((first ∷ xs) ++ ys) ++ zs) ≡ ((f first ++ flat_map f xs) ++ flat_map f ys) ++ flat_map f zs
@@ -68,8 +69,8 @@ in_lines table names seeds certs level r =
 pub record AreTold (f : Revision) (level : Level) (r : Lists) : Type 0 where
   pub readers : GivesEachOnce (certificates f) (degree f.rows) (given f.rows)
   pub outside : (a b : ℕ) → (certificates f).accounts ≤ a → (certificates f).standing a b ≡ Observer
-  pub accounts : (certificates f).accounts ≤ 100000
-  pub certs : sum_below (certificates f).accounts (degree f.rows) ≤ 2000000
+  pub accounts : (certificates f).accounts ≤ MOST_ACCOUNTS
+  pub certs : sum_below (certificates f).accounts (degree f.rows) ≤ MOST_CERTS
   pub known : length f.names ≡ (certificates f).accounts
   pub named : All IsName f.names
   pub apart : AreApart f.names

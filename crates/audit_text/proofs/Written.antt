@@ -10,8 +10,8 @@ use Rattle.trust_types.specs.declared.graphs.Cert.{Cert}
 use Rattle.trust_types.specs.Graph.{Certificates}
 use Rattle.trust_types.specs.Names.{IsName}
 use Rattle.trust_types.specs.NodeWords.{name_of}
-use Rattle.site_text.specs.Canonical.{line, caps_words, seed_words, cert_words}
-use Rattle.site_text.specs.Writing.{below, seeds_below, first_given, certs_below, lines_for}
+use Rattle.audit_text.specs.Canonical.{line, caps_words, seed_words, cert_words}
+use Rattle.audit_text.specs.inner.Writing.{below, seeds_below, first_given, certs_below, lines_for}
 
 pub all_taken : {X : Type 0} (xs : List X) (n : ℕ) → n ≡ length xs → take n xs ≡ xs
 all_taken xs n e = rw e (take-length xs)

@@ -10,15 +10,15 @@ ghost use Rattle.frozen.specs.Revision.{certificates};
 ghost use Rattle.roster_form.specs.LevelRosters.{lists_of, AreAmong};
 ghost use Rattle.trust_types.specs.NodeWords.{name_of, node_name};
 ghost use Rattle.site_text.specs.View.{of_frozen};
-ghost use Rattle.site_text.specs.Canonical.{line, caps_words, account_words, seed_words, cert_words, level_words, flow_words, IsCanonical, IsReadAs};
-ghost use Rattle.site_text.specs.Writing.{seeds_below, first_given, certs_below, lines_for};
+ghost use Rattle.audit_text.specs.Canonical.{line, caps_words, account_words, seed_words, cert_words, level_words, flow_words, IsCanonical, IsReadAs};
+ghost use Rattle.audit_text.specs.inner.Writing.{seeds_below, first_given, certs_below, lines_for};
 
 use frozen::Frozen;
 use itoa::Buffer;
 use roster_form::LevelRoster;
 use std::alloc::Global;
 use name_index::NameIndex;
-use trust_types::{AccountNo, Cert, CertGraph, FlowLine, Level, NoMemory, Node};
+use trust_types::{AccountNo, Cert, CertGraph, FlowLine, Level, MOST_ACCOUNTS, NoMemory, Node};
 
 /// About as many bytes as the line of an account or of a certificate has.
 const LINE: usize = 32;
@@ -62,7 +62,7 @@ fn put_caps(text: &mut Vec<u8>, entries: &[u32]) -> Result<(), NoMemory>
 
 /// A line `account` for each name, all of which differ.
 fn put_accounts(text: &mut Vec<u8>, names: &NameIndex) -> Result<(), NoMemory>
-    requires few { length names.now ≤ 100000 }
+    requires few { length names.now ≤ MOST_ACCOUNTS }
     ensures written { OnOk result (text.new.items ≡ text.old.items ++ lines_for account_words names.now) }
     ensures named { OnOk result (All IsName names.now) }
     ensures apart { AreApart names.now }
@@ -224,65 +224,4 @@ fn put_word(text: &mut Vec<u8>, word: &[u8]) -> Result<(), NoMemory>
     text.push(b' ')?;
     text.extend_from_slice(word)?;
     Ok(())
-}
-
-#[cfg(test)]
-mod tests {
-    use super::*;
-    use std::alloc::AllocError;
-    use std::sync::Arc;
-    use std::test::Fail;
-    use trust_types::{Caps, Name};
-
-    /// A chain: raph, a seed, certifies alan.
-    fn chain(alloc: Global) -> Result<Arc<Frozen>, Fail> {
-        let mut names = NameIndex::new(alloc);
-        names.push(Name::read(b"raph").ok_or("raph")?)?;
-        let alan = Name::read(b"alan").ok_or("alan")?;
-        if names.find(&alan).is_some() {
-            return Err("alan twice".into());
-        }
-        names.push(alan)?;
-        let cert = Cert {
-            from: AccountNo(0),
-            to: AccountNo(1),
-            level: Level::Journeyer,
-        };
-        let seeds = vec![in alloc; AccountNo(0)]?;
-        let certs = vec![in alloc; cert]?;
-        let caps = Caps::read(&[10, 1])?;
-        Ok(Frozen::of(alloc, 4, caps, names.into_names(), seeds, certs)?)
-    }
-
-    /// Raph alone is served, and is full.
-    fn roster(alloc: Global) -> Result<LevelRoster, AllocError>
-        ensures { IfOk result (λ roster. AreAmong 2 (lists_of roster)) }
-    {
-        let unit = FlowLine {
-            from: Node::Root,
-            to: AccountNo(0),
-            units: 1,
-        };
-        Ok(LevelRoster {
-            level: Level::Apprentice,
-            served: vec![in alloc; AccountNo(0)]?,
-            flow: vec![in alloc; unit]?,
-            pass: vec![in alloc; Node::Root]?,
-            full: vec![in alloc; Node::Account(AccountNo(0))]?,
-        })
-    }
-
-    #[test]
-    fn each_line_has_its_place(rt: HostRuntime) -> Result<(), Fail> {
-        let frozen = chain(rt.alloc())?;
-        let roster = roster(rt.alloc())?;
-        if frozen.accounts() != 2 {
-            return Err("accounts".into());
-        }
-        let text = proof_text(rt.alloc(), &frozen, &roster)?;
-        let lines = b"caps 10 1\naccount raph\naccount alan\nseed raph\ncert raph alan Journeyer\n\
-            level Apprentice\nflow - raph 1\npass -\nfull raph\n";
-        assert!(rt; text.as_slice() == lines.as_slice());
-        Ok(())
-    }
 }

@@ -1,9 +1,9 @@
--- What is written of a graph, in order, and the lines that it gives.
+-- For the functions that write: what is written of a graph, in order, and the lines that it gives.
 use Rattle.std.specs.Prelude.{ℕ, List, map, filter, flat_map}
 use Rattle.std.specs.List.{range_with_len}
 use Rattle.trust_types.specs.declared.graphs.Cert.{Cert}
 use Rattle.trust_types.specs.Graph.{Certificates}
-use Rattle.site_text.specs.Canonical.{line}
+use Rattle.audit_text.specs.Canonical.{line}
 
 -- The numbers below a bound.
 abbrev pub below : ℕ → List ℕ

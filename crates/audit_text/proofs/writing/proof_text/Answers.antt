@@ -4,8 +4,8 @@ use Rattle.trust_types.specs.NameLists.{AreApart}
 use Rattle.trust_types.specs.Names.{IsName}
 use Rattle.trust_types.specs.Tables.{IsTable}
 use Rattle.roster_form.specs.LevelRosters.{lists_of}
-use Rattle.site_text.proofs.Texted.{AreTold, Parts, parts_of, canonical, readable}
-use Rattle.site_text.proofs.writing.proof_text.Goals as goal
+use Rattle.audit_text.proofs.Texted.{AreTold, Parts, parts_of, canonical, readable}
+use Rattle.audit_text.proofs.writing.proof_text.Goals as goal
 
 told : (c : goal.In_ok-put_nodes-2) → AreTold c.args.frozen.now c.args.roster.now.level (lists_of c.args.roster.now)
 told c = record {

@@ -1,9 +1,9 @@
 use Rattle.std.proofs.Common.{◌≡◌, ◌<◌, ℕ, ◌++◌, take}
 use Rattle.trust_types.specs.Names.{IsName}
 use Rattle.trust_types.specs.NodeWords.{name_of}
-use Rattle.site_text.specs.Canonical.{account_words}
-use Rattle.site_text.specs.Writing.{lines_for}
-use Rattle.site_text.proofs.writing.put_accounts.Given as goal
+use Rattle.audit_text.specs.Canonical.{account_words}
+use Rattle.audit_text.specs.inner.Writing.{lines_for}
+use Rattle.audit_text.proofs.writing.put_accounts.Given as goal
 
 abbrev pub invariant-loop-account : goal.invariant-loop-account
 invariant-loop-account l = record {

@@ -1,6 +1,6 @@
 use Rattle.std.proofs.Common.{◌≡◌, length, arith}
-use Rattle.site_text.proofs.Written.{caps_done}
-use Rattle.site_text.proofs.writing.put_caps.Goals as goal
+use Rattle.audit_text.proofs.Written.{caps_done}
+use Rattle.audit_text.proofs.writing.put_caps.Goals as goal
 
 pub returns : goal.returns
 returns c =

@@ -1,9 +1,9 @@
 use Rattle.std.proofs.Common.{◌∙◌, ap, ◌++◌}
 use Rattle.trust_types.specs.Layout.{degree, given}
-use Rattle.site_text.specs.Canonical.{cert_words}
-use Rattle.site_text.specs.Writing.{first_given, lines_for}
-use Rattle.site_text.proofs.Written.{more_certs}
-use Rattle.site_text.proofs.writing.put_certs.Goals as goal
+use Rattle.audit_text.specs.Canonical.{cert_words}
+use Rattle.audit_text.specs.inner.Writing.{first_given, lines_for}
+use Rattle.audit_text.proofs.Written.{more_certs}
+use Rattle.audit_text.proofs.writing.put_certs.Goals as goal
 
 pub loop-giver-preserved : goal.loop-giver-preserved
 loop-giver-preserved c =

@@ -1,6 +1,6 @@
 use Rattle.trust_types.specs.Layout.{given}
-use Rattle.site_text.proofs.Written.{given_step}
-use Rattle.site_text.proofs.writing.put_certs_of.Goals as goal
+use Rattle.audit_text.proofs.Written.{given_step}
+use Rattle.audit_text.proofs.writing.put_certs_of.Goals as goal
 
 pub loop-i-preserved : goal.loop-i-preserved
 loop-i-preserved c =

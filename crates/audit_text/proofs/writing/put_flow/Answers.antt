@@ -1,9 +1,9 @@
 use Rattle.std.proofs.Common.{◌<◌, ◌^◌, ◌∙◌, ◌++◌, ap, sym, subst}
 use Rattle.std.proofs.lemmas.List.Elements.{All-more}
 use Rattle.trust_types.specs.declared.flows.FlowLine.{FlowLine}
-use Rattle.site_text.specs.Canonical.{line, flow_words}
-use Rattle.site_text.proofs.Written.{more_taken}
-use Rattle.site_text.proofs.writing.put_flow.Goals as goal
+use Rattle.audit_text.specs.Canonical.{line, flow_words}
+use Rattle.audit_text.proofs.Written.{more_taken}
+use Rattle.audit_text.proofs.writing.put_flow.Goals as goal
 
 pub loop-edge-preserved : goal.loop-edge-preserved
 loop-edge-preserved c = record {

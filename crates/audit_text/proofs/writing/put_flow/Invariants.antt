@@ -1,7 +1,7 @@
 use Rattle.std.proofs.Common.{◌≡◌, ◌<◌, ◌^◌, ◌++◌, take, All}
-use Rattle.site_text.specs.Canonical.{flow_words}
-use Rattle.site_text.specs.Writing.{lines_for}
-use Rattle.site_text.proofs.writing.put_flow.Given as goal
+use Rattle.audit_text.specs.Canonical.{flow_words}
+use Rattle.audit_text.specs.inner.Writing.{lines_for}
+use Rattle.audit_text.proofs.writing.put_flow.Given as goal
 
 abbrev pub invariant-loop-edge : goal.invariant-loop-edge
 invariant-loop-edge l = record {

@@ -1,10 +1,10 @@
 use Rattle.std.proofs.Common.{◌∙◌, ap, sym, ◌++◌}
 use Rattle.frozen.specs.Revision.{certificates}
-use Rattle.site_text.specs.Canonical.{seed_words}
-use Rattle.site_text.specs.Writing.{lines_for}
-use Rattle.site_text.proofs.Written.{seeds_step, same_seeds}
-use Rattle.site_text.proofs.writing.put_seeds.Goals as goal
-use Rattle.site_text.proofs.writing.put_seeds.Goals.{then-is_seed+in_ok-put_seed, else-is_seed}
+use Rattle.audit_text.specs.Canonical.{seed_words}
+use Rattle.audit_text.specs.inner.Writing.{lines_for}
+use Rattle.audit_text.proofs.Written.{seeds_step, same_seeds}
+use Rattle.audit_text.proofs.writing.put_seeds.Goals as goal
+use Rattle.audit_text.proofs.writing.put_seeds.Goals.{then-is_seed+in_ok-put_seed, else-is_seed}
 
 pub loop-number-preserved : goal.loop-number-preserved
 loop-number-preserved c =
