@@ -7,7 +7,7 @@ use Rattle.trust_types.specs.declared.levels.Level.TheVariants.{Observer, Appren
 use Rattle.trust_types.specs.declared.graphs.Cert.{Cert}
 use Rattle.trust_types.specs.Levels.{is_grade, IsGrade}
 use Rattle.trust_types.specs.Kept.{is_of_pair, stands, standing_among}
-use Rattle.cert_log.specs.Standing.{standing_list}
+use Rattle.cert_log.specs.inner.Order.{standing_list}
 use Rattle.cert_log.proofs.Leaving.{level_behind, none_behind, some_behind}
 use Rattle.cert_log.proofs.Counting.{same_pair}
 

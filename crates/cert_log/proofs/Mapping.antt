@@ -6,7 +6,7 @@ use Rattle.trust_types.specs.declared.graphs.Cert.{Cert}
 use Rattle.trust_types.specs.Levels.{is_grade}
 use Rattle.trust_types.specs.Kept.{is_of_pair, standing_among, standing_count}
 use Rattle.pair_map.specs.Pairs.{Pairs, value_at, IsSet}
-use Rattle.cert_log.specs.Log.{AreLevels, grade_of}
+use Rattle.cert_log.specs.inner.Levels.{AreLevels, grade_of}
 use Rattle.cert_log.proofs.Leaving.{behind_push}
 use Rattle.cert_log.proofs.Counting.{graded, count_push}
 

@@ -7,8 +7,7 @@ use Rattle.std.proofs.lemmas.List.{take-set, take-set-le, take_more_set, drop-se
 use Rattle.trust_types.specs.declared.levels.Level.TheVariants.{Observer}
 use Rattle.trust_types.specs.declared.graphs.Cert.{Cert}
 use Rattle.trust_types.specs.Levels.{is_grade}
-use Rattle.cert_log.specs.Standing.{standing_list, first_stands}
-use Rattle.cert_log.specs.Order.{RisesByPair, begins_with_pair}
+use Rattle.cert_log.specs.inner.Order.{standing_list, first_stands, RisesByPair, begins_with_pair}
 use Rattle.cert_log.proofs.Ordered.{next_any}
 
 -- The first one stands where the next is of another pair.

@@ -14,9 +14,9 @@ use Rattle.trust_types.specs.Kept.{is_of_pair, stands, standing_among}
 use Rattle.trust_types.specs.Certs.{IsBefore}
 use Rattle.pair_map.specs.Pairs.{Pairs, Rises}
 use Rattle.pair_map.proofs.Entries.{Contains-value_at, value_at-Contains}
-use Rattle.cert_log.specs.Standing.{standing_list, AreStanding, IsBetween, StandingCanStand}
-use Rattle.cert_log.specs.Order.{RisesByPair, pair_lt}
-use Rattle.cert_log.specs.Log.{AreLevels, grade_of, cert_at}
+use Rattle.cert_log.specs.Standing.{AreStanding, IsBetween, StandingCanStand}
+use Rattle.cert_log.specs.inner.Order.{standing_list, RisesByPair, pair_lt}
+use Rattle.cert_log.specs.inner.Levels.{AreLevels, grade_of, cert_at}
 use Rattle.cert_log.proofs.Counting.{same_pair}
 use Rattle.cert_log.proofs.Ordered.{tail_rises, later}
 use Rattle.cert_log.proofs.Listing.{listed_stands, stands_listed, length-standing_list, some_of_pair, and_right}

@@ -1,3 +1,3 @@
 pub mod Standing
-pub mod Order
 pub mod Log
+pub mod inner

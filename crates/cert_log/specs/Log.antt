@@ -1,41 +1,17 @@
--- What a log keeps of the certificates that were given.
-use Rattle.std.specs.Prelude.{ℕ, Bool, true, false, List, [], ◌∷◌, ◌++◌, ◌≡◌, ◌≤◌, Option, Some, None, Result, Ok, Err, nat_le, length, if◌then◌else◌}
-use Rattle.trust_types.specs.declared.levels.Level.{Level}
+-- The certificates that were given to a log.
+use Rattle.std.specs.Prelude.{Bool, true, false, List, [], ◌∷◌, ◌++◌, ◌≡◌, Result, Ok, Err, nat_le}
 use Rattle.trust_types.specs.declared.graphs.Cert.{Cert}
-use Rattle.trust_types.specs.Levels.{is_grade}
-use Rattle.trust_types.specs.Kept.{standing_among, standing_count}
-use Rattle.pair_map.specs.Pairs.{Pairs, value_at}
+use Rattle.trust_types.specs.declared.limits.TheConstants.{MOST_CERTS}
+use Rattle.trust_types.specs.Kept.{standing_count}
 use Rattle.cert_log.specs.declared.logs.CertLog.{CertLog}
-use Rattle.cert_log.specs.declared.logs.Kept.{Kept}
-use Rattle.cert_log.specs.declared.logs.Kept.TheVariants.{Lines, Levels}
+use Rattle.cert_log.specs.inner.Levels.{Keeps}
 
--- The level, where it is a grade.
-abbrev pub grade_of : Level → Option Level
-grade_of level = if is_grade level then Some level else None
-
--- The certificate that an entry of a map stands for.
-abbrev pub cert_at : (ℕ × ℕ) × Level → Cert
-cert_at entry = record { from = entry.0.0; to = entry.0.1; level = entry.1 }
-
--- A map has the level of each pair that stands, and no more than 2,000,000 stand.
-pub record AreLevels (levels : Pairs Level) (certs : List Cert) : Type 0 where
-  pub at : (a b : ℕ) → value_at levels a b ≡ grade_of (standing_among certs a b)
-  pub count : length levels ≡ standing_count certs
-  pub few : standing_count certs ≤ 2000000
-
-abbrev pub Keeps : Kept → List Cert → Type 0
-Keeps (Lines kept) certs = (kept.items ≡ certs) × (length certs ≤ 2000000)
-Keeps (Levels levels) certs = AreLevels levels certs
-
--- The certificates that were given to a log, in their order.
+-- These certificates were given to the log, in this order.
 pub record IsLog (log : CertLog) (certs : List Cert) : Type 0 where
   pub keeps : Keeps log.kept certs
 
--- A further certificate is taken exactly where no more than 2,000,000 stand then; else the log stays as it was.
+-- A further certificate is taken exactly where no more than 2,000,000 stand then; else the log stays as it was, also where
+-- there was a fault.
 abbrev pub Takes : {E : Type 0} → List Cert → Cert → Result Bool E → CertLog → Type 0
-Takes certs c (Ok fits) new = (fits ≡ nat_le (standing_count (certs ++ c ∷ [])) 2000000) × (fits ≡ true → IsLog new (certs ++ c ∷ [])) × (fits ≡ false → IsLog new certs)
-Takes certs c (Err e) new = Unit {0}
-
-abbrev pub TakesLevel : {E : Type 0} → List Cert → Cert → Result Bool E → Pairs Level → Type 0
-TakesLevel certs c (Ok fits) new = (fits ≡ nat_le (standing_count (certs ++ c ∷ [])) 2000000) × (fits ≡ true → AreLevels new (certs ++ c ∷ [])) × (fits ≡ false → AreLevels new certs)
-TakesLevel certs c (Err e) new = Unit {0}
+Takes certs c (Ok fits) new = (fits ≡ nat_le (standing_count (certs ++ c ∷ [])) MOST_CERTS) × (fits ≡ true → IsLog new (certs ++ c ∷ [])) × (fits ≡ false → IsLog new certs)
+Takes certs c (Err e) new = IsLog new certs

@@ -1,14 +1,15 @@
 -- The certificates that stand.
-use Rattle.std.specs.Prelude.{ℕ, Bool, false, ◌≡◌, ◌≢◌, ◌<◌, ◌≤◌, ◌↔◌, List, [], ◌∷◌, All, AllPairs, Contains, length, if◌then◌else◌}
+use Rattle.std.specs.Prelude.{ℕ, ◌≡◌, ◌≢◌, ◌<◌, ◌≤◌, ◌↔◌, List, All, AllPairs, Contains, length}
 use Rattle.trust_types.specs.declared.graphs.Cert.{Cert}
+use Rattle.trust_types.specs.declared.limits.TheConstants.{MOST_CERTS}
 use Rattle.trust_types.specs.Levels.{IsGrade}
-use Rattle.trust_types.specs.Kept.{standing_among, stands}
+use Rattle.trust_types.specs.Kept.{standing_among}
 use Rattle.trust_types.specs.Certs.{IsBefore, CanStand}
 
 -- These stand after the certificates: at most 2,000,000, in rising order of giver and taker, each pair that has a grade
 -- at its level, and no other.
 pub record AreStanding (certs kept : List Cert) : Type 0 where
-  pub few : length kept ≤ 2000000
+  pub few : length kept ≤ MOST_CERTS
   pub rises : AllPairs IsBefore kept
   pub just : (c : Cert) → Contains kept c ↔ (IsGrade c.level × (standing_among certs c.from c.to ≡ c.level))
 
@@ -21,13 +22,3 @@ pub record IsBetween (accounts : ℕ) (c : Cert) : Type 0 where
 -- What stands can stand beside one another, where the certificates are between accounts.
 abbrev pub StandingCanStand : Type 0
 StandingCanStand = (accounts : ℕ) (certs kept : List Cert) → All (IsBetween accounts) certs → AreStanding certs kept → CanStand accounts kept
-
--- The first certificate stands before the later ones.
-abbrev pub first_stands : List Cert → Bool
-first_stands [] = false
-first_stands (c ∷ later) = stands c later
-
--- Those of a list that stand before the later ones, in their order.
-abbrev pub standing_list : List Cert → List Cert
-standing_list [] = []
-standing_list (c ∷ later) = if stands c later then c ∷ standing_list later else standing_list later

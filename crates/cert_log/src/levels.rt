@@ -3,17 +3,17 @@
 ghost use Rattle.std.specs.Prelude.{◌≡◌, ◌≤◌, List, IfOk, length, map};
 ghost use Rattle.trust_types.specs.declared.graphs.Cert.{Cert};
 ghost use Rattle.cert_log.specs.Standing.{AreStanding};
-ghost use Rattle.cert_log.specs.Log.{AreLevels, TakesLevel, cert_at};
+ghost use Rattle.cert_log.specs.inner.Levels.{AreLevels, TakesLevel, cert_at};
 ghost use Rattle.pair_map.specs.Pairs.{Rises};
 
 use crate::logs::MOST;
 use pair_map::PairMap;
 use std::alloc::{AllocError, Global};
-use trust_types::{AccountNo, Cert, Level, NoMemory};
+use trust_types::{AccountNo, Cert, Level, MOST_CERTS, NoMemory};
 
-/// The levels at which these certificates leave their pairs, of which no more than 2,000,000 stand.
+/// The levels at which these certificates leave their pairs, of which no more than [`MOST_CERTS`] stand.
 pub fn levels_of(alloc: Global, certs: &[Cert]) -> Result<PairMap<Level>, NoMemory>
-    ensures { length certs.now ≤ 2000000 → IfOk result (λ levels. AreLevels levels certs.now) }
+    ensures { length certs.now ≤ MOST_CERTS → IfOk result (λ levels. AreLevels levels certs.now) }
 {
     let mut levels = PairMap::new(alloc);
     for cert in certs {
@@ -22,7 +22,7 @@ pub fn levels_of(alloc: Global, certs: &[Cert]) -> Result<PairMap<Level>, NoMemo
     Ok(levels)
 }
 
-/// Puts one more certificate in, if no more than 2,000,000 stand then.
+/// Puts one more certificate in, if no more than [`MOST_CERTS`] stand then.
 pub fn put(levels: &mut PairMap<Level>, cert: Cert) -> Result<bool, NoMemory>
     ensures { (cs : List Cert) → AreLevels levels.old cs → TakesLevel cs cert result levels.new }
 {

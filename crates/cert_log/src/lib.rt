@@ -9,6 +9,3 @@ mod sorted;
 
 pub use laws::standing_can_stand;
 pub use logs::CertLog;
-
-#[cfg(test)]
-mod tests;

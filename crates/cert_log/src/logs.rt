@@ -7,20 +7,20 @@ use crate::levels::{certs_of, levels_of, put};
 use crate::sorted::{keep_standing, sort_by_pair};
 use pair_map::PairMap;
 use std::alloc::Global;
-use trust_types::{Cert, Level, NoMemory};
+use trust_types::{Cert, Level, MOST_CERTS, NoMemory};
 
-/// The most certificates that stand.
-pub const MOST: usize = 2_000_000;
+/// The most certificates that stand, as a length.
+pub const MOST: usize = MOST_CERTS as usize;
 
 /// Certificates in the order in which they were given. A later one of a pair takes the earlier's place, and one at
-/// Observer takes it away; at most 2,000,000 stand.
+/// Observer takes it away; at most [`MOST_CERTS`] stand.
 #[derive(Drop)]
 pub struct CertLog {
     alloc: Global,
     kept: Kept,
 }
 
-/// Up to 2,000,000 certificates are kept as they come, since no more can stand. One more is looked up.
+/// Up to [`MOST_CERTS`] certificates are kept as they come, since no more can stand. One more is looked up.
 #[derive(Drop)]
 enum Kept {
     Lines(Vec<Cert>),
@@ -38,11 +38,11 @@ impl CertLog {
         }
     }
 
-    /// Adds a certificate, and answers whether it did: it adds none by which more than 2,000,000 would stand. The first
-    /// 2,000,000 take a place in a list each, and a later one a look-up.
+    /// Adds a certificate, and answers whether it did: it adds none by which more than [`MOST_CERTS`] would stand. The first
+    /// [`MOST_CERTS`] take a place in a list each, and a later one a look-up.
     ///
     /// # Errors
-    /// [`NoMemory`] where there isn't enough for it: the log is of no more use then.
+    /// [`NoMemory`] where there isn't enough for it: then the log is as it was.
     pub fn push(&mut self, cert: Cert) -> Result<bool, NoMemory>
         ensures { (cs : List Cert) → IsLog self.old cs → Takes cs cert result self.new }
     {

@@ -3,8 +3,7 @@
 ghost use Rattle.std.specs.Prelude.{◌≡◌, ◌<◌, ◌≤◌, ℕ, OnOk, length, take, drop};
 ghost use Rattle.std.specs.List.Sorted.{IsStableBy};
 ghost use Rattle.trust_types.specs.Kept.{standing_among};
-ghost use Rattle.cert_log.specs.Standing.{standing_list, first_stands};
-ghost use Rattle.cert_log.specs.Order.{RisesByPair, pair_lt, begins_with_pair};
+ghost use Rattle.cert_log.specs.inner.Order.{standing_list, first_stands, RisesByPair, pair_lt, begins_with_pair};
 
 use std::alloc::AllocError;
 use trust_types::{AccountNo, Cert};

@@ -19,24 +19,6 @@ use Rattle.claim_lines.specs.Drafts.{IsClaimDraft}
 use Rattle.trust_types.specs.Lines.{IsNodeAmong, IsLineAmong}
 use Rattle.claim_lines.proofs.Flowing.{Differ, turned, some_units, no_units, units-push}
 
-pub cond_none : {A : Type 0} (t : Bool) (x : A) → None ≡ cond t (Some x) None → t ≡ false
-cond_none true x e = cc
-cond_none false x e = refl
-
-pub cond_some : {A : Type 0} (t : Bool) (x y : A) → Some y ≡ cond t (Some x) None → (t ≡ true) × (y ≡ x)
-cond_some true x y e = (refl, cc)
-cond_some false x y e = cc
-
-positive : (o : Option ℕ) (n : ℕ) → (elim o [ None ↦ None | Some m ↦ cond (nat_eq m 0) None (Some m) ]) ≡ Some n → 0 < n
-positive None n e = cc
-positive (Some m) n e = grind arith
-
-pub some_units_of : (w : List ℕ) (n : ℕ) → units_of w ≡ Some n → 0 < n
-some_units_of w n e = positive (number w) n e
-
-pub account_below : (names : List (List ℕ)) (w : List ℕ) (a : ℕ) → number_of names w ≡ Some a → a < length names
-account_below names w a e = (position-Some (λ other. bytes_eq other w) names a [] e).0
-
 -- whether a pair has a line, as the map tells it
 pub has_line : (n : ℕ) (d : ClaimDraft) (c : Claim) (x : Node) (b : ℕ) → IsClaimDraft n d c → is_some (value_at d.units (place x) b) ≡ list_any (is_of_pair x b) c.flow
 has_line n d c x b is = ap is_some (is.units (place x) b) ∙ some_units c.flow x b
@@ -103,16 +85,6 @@ first false true false = refl
 first false false true = refl
 first false false false = refl
 
-second : (p f t : Bool) → (t || (p || f)) ≡ (p || (f || (t || false)))
-second true true true = refl
-second true true false = refl
-second true false true = refl
-second true false false = refl
-second false true true = refl
-second false true false = refl
-second false false true = refl
-second false false false = refl
-
 -- what both lines of a node do to the places
 placed-more : (n : ℕ) (d new : ClaimDraft) (c : Claim) (x y : Node) → IsClaimDraft n d c → IsNodeAmong n x → new.placed.items ≡ set d.placed.items (place x) true →
     get_or new.placed.items (place y) false ≡ (nat_eq (place y) (place x) || is_placed c y)
@@ -147,28 +119,42 @@ draft-pass n d new c x is among none long placed_is units_is pass_is full_is =
       full = ap (λ v. v.items) full_is ∙ is.full;
     }
 
+-- The same with the sides of the cut exchanged.
+abbrev turned_claim : Claim → Claim
+turned_claim c = record { flow = c.flow; pass = c.full; full = c.pass }
+
+abbrev turned_draft : ClaimDraft → ClaimDraft
+turned_draft d = record { units = d.units; placed = d.placed; pass = d.full; full = d.pass; root = d.root; few = d.few }
+
+or-turned : (p f : Bool) → (p || f) ≡ (f || p)
+or-turned true true = refl
+or-turned true false = refl
+or-turned false true = refl
+or-turned false false = refl
+
+turned_is : (n : ℕ) (d : ClaimDraft) (c : Claim) → IsClaimDraft n d c → IsClaimDraft n (turned_draft d) (turned_claim c)
+turned_is n d c is = record {
+  claim = record {
+    lines = is.claim.lines;
+    lines_differ = is.claim.lines_differ;
+    pass = is.claim.full;
+    full = is.claim.pass;
+    pass_differ = is.claim.full_differ;
+    full_differ = is.claim.pass_differ;
+    apart = λ x fills passes. is.claim.apart x passes fills;
+  };
+  made_for = is.made_for;
+  units = is.units;
+  placed = λ x. is.placed x ∙ or-turned (list_any (same_node x) c.pass) (list_any (same_node x) c.full);
+  pass = is.full;
+  full = is.pass;
+}
+
 -- The draft after a line `full NODE`.
 pub draft-full : (n : ℕ) (d new : ClaimDraft) (c : Claim) (x : Node) → IsClaimDraft n d c → IsNodeAmong n x → is_placed c x ≡ false
-    → vec_len new.placed ≡ vec_len d.placed → new.placed.items ≡ set d.placed.items (place x) true → new.units ≡ d.units → new.pass ≡ d.pass → new.full.items ≡ d.full.items ++ x ∷ []
+    → vec_len new.placed ≡ vec_len d.placed → new.placed.items ≡ set d.placed.items (place x) true → new.units ≡ d.units → new.full.items ≡ d.full.items ++ x ∷ [] → new.pass ≡ d.pass
     → IsClaimDraft n new (record { flow = c.flow; pass = c.pass; full = c.full ++ x ∷ [] })
-draft-full n d new c x is among none long placed_is units_is pass_is full_is =
-    let parts = or_parts (list_any (same_node x) c.pass) (list_any (same_node x) c.full) none in record {
-      claim = record {
-        lines = is.claim.lines;
-        lines_differ = is.claim.lines_differ;
-        pass = is.claim.pass;
-        full = All-push (IsNodeAmong n) c.full x is.claim.full among;
-        pass_differ = is.claim.pass_differ;
-        full_differ = nodes-push c.full x is.claim.full_differ parts.1;
-        apart = λ y passes full. elim (Contains-push_cases c.full x y full) [
-          | inl old ↦ is.claim.apart y passes old
-          | inr same ↦ false≢true (sym parts.0 ∙ listed c.pass x y passes same)
-        ];
-      };
-      made_for = long ∙ is.made_for;
-      units = λ p b. ap (λ es. value_at es p b) units_is ∙ is.units p b;
-      placed = λ y. placed-more n d new c x y is among placed_is ∙ second (list_any (same_node y) c.pass) (list_any (same_node y) c.full) (same_node y x)
-          ∙ ap (λ (t : Bool). list_any (same_node y) c.pass || t) (sym (list_any-append (same_node y) c.full (x ∷ [])));
-      pass = ap (λ v. v.items) pass_is ∙ is.pass;
-      full = full_is ∙ ap (λ (xs : List Node). xs ++ x ∷ []) is.full;
-    }
+draft-full n d new c x is among none long placed_is units_is full_is pass_is =
+    turned_is n (turned_draft new) (record { flow = c.flow; pass = c.full ++ x ∷ []; full = c.pass })
+    (draft-pass n (turned_draft d) (turned_draft new) (turned_claim c) x (turned_is n d c is) among (or-turned (list_any (same_node x) c.full) (list_any (same_node x) c.pass) ∙ none)
+    long placed_is units_is full_is pass_is)

@@ -12,7 +12,7 @@ use Rattle.trust_types.specs.declared.flows.FlowLine.{FlowLine}
 use Rattle.trust_types.specs.Lines.{place, is_before, flow_of}
 use Rattle.pair_map.specs.Pairs.{Pairs, Rises}
 use Rattle.claim_lines.specs.Claim.{is_of_pair}
-use Rattle.claim_lines.specs.Flows.{node_at, line_of, entry_of, units_at}
+use Rattle.claim_lines.specs.inner.Flows.{node_at, line_of, entry_of, units_at}
 
 -- No pair has two lines.
 abbrev pub Differ : List FlowLine → Type 0

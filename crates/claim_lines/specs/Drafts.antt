@@ -10,7 +10,7 @@ use Rattle.pair_map.specs.Pairs.{value_at}
 use Rattle.claim_lines.specs.declared.drafts.ClaimDraft.{ClaimDraft}
 use Rattle.claim_lines.specs.declared.drafts.ClaimParts.{ClaimParts}
 use Rattle.claim_lines.specs.Claim.{Claim, is_of_pair, is_placed, has_root}
-use Rattle.claim_lines.specs.Flows.{units_at}
+use Rattle.claim_lines.specs.inner.Flows.{units_at}
 
 -- What each claim keeps to, of a site with so many accounts: it names no other, no pair has two lines, and no node stands
 -- twice.

@@ -1,3 +1,3 @@
 pub mod Claim
-pub mod Flows
 pub mod Drafts
+pub mod inner

@@ -2,14 +2,13 @@
 
 ghost use Rattle.std.specs.Prelude.{◌<◌, ◌≤◌, ◌^◌, vec_len};
 
-use crate::flows::lines_of;
-use crate::nodes::{find_node, is_node, is_same, place_of};
-use crate::units::units_of;
+use crate::flows::{flow_in, lines_of};
+use crate::nodes::{node_in, place_of};
+use name_index::NameIndex;
 use pair_map::PairMap;
 use std::alloc::Global;
-use text_lines::{LineFault, TextKind, Words, is_line};
-use name_index::NameIndex;
-use trust_types::{FlowLine, Name, NoMemory, Node};
+use text_lines::{LineFault, TextKind, Words, fault_if, fault_unless, is_line, is_same};
+use trust_types::{FlowLine, NoMemory, Node};
 
 /// A flow and a cut while their lines are read. It takes one byte an account, and memory for what the lines say.
 #[derive(Drop)]
@@ -39,9 +38,8 @@ pub struct ClaimParts {
 impl ClaimDraft {
     ghost use Rattle.std.specs.Prelude.{ℕ, ◌≡◌, IfOk, length};
     ghost use Rattle.text_lines.specs.Reading.{Reads};
-    ghost use Rattle.claim_lines.specs.Claim.{Claim, nothing, flow_line, placed_node, pass_line, full_line, claim_form, claim_line, has_root};
+    ghost use Rattle.claim_lines.specs.Claim.{Claim, nothing, flow_line, node_line, claim_form, claim_line, has_root};
     ghost use Rattle.claim_lines.specs.Drafts.{IsFor, IsClaimDraft, ArePartsOf, ArePartsAmong};
-    ghost use Rattle.trust_types.specs.Lines.{IsNodeAmong};
 
     /// Nothing is claimed yet, of a site with so many accounts.
     ///
@@ -69,9 +67,7 @@ impl ClaimDraft {
         ensures { (c : Claim) → IsClaimDraft (length names.now) self.old c →
             Reads (IsClaimDraft (length names.now)) result self.new (claim_line names.now c line.now) }
     {
-        if !is_line(line) {
-            return Err(LineFault::Kind(TextKind::BadLine));
-        }
+        fault_unless(is_line(line), TextKind::BadLine)?;
         self.read_form(names, &mut Words::of(line))
     }
 
@@ -106,115 +102,53 @@ impl ClaimDraft {
         ensures { (c : Claim) → IsClaimDraft (length names.now) self.old c →
             Reads (IsClaimDraft (length names.now)) result self.new (claim_form names.now c words.old) }
     {
-        let Some(word) = words.next_word() else {
-            return Err(LineFault::Kind(TextKind::BadLine));
-        };
-        let Some(first) = words.next_word() else {
-            return Err(LineFault::Kind(TextKind::BadLine));
-        };
-        let Some(second) = words.next_word() else {
-            if is_same(word, b"pass") {
-                return self.read_pass(names, first);
-            }
-            if is_same(word, b"full") {
-                return self.read_full(names, first);
-            }
-            return Err(LineFault::Kind(TextKind::BadLine));
-        };
-        let Some(third) = words.next_word() else {
-            return Err(LineFault::Kind(TextKind::BadLine));
-        };
-        if let Some(_) = words.next_word() {
-            return Err(LineFault::Kind(TextKind::BadLine));
+        let keyword = words.first()?;
+        if is_same(keyword, b"pass") {
+            return self.read_node(names, true, words);
         }
-        if is_same(word, b"flow") {
-            return self.read_flow(names, first, second, third);
+        if is_same(keyword, b"full") {
+            return self.read_node(names, false, words);
+        }
+        if is_same(keyword, b"flow") {
+            return self.read_flow(names, words);
         }
         Err(LineFault::Kind(TextKind::BadLine))
     }
 
-    /// Reads a line `flow NODE NAME UNITS`.
-    fn read_flow(
-        &mut self,
-        names: &NameIndex,
-        giver: &[u8],
-        taker: &[u8],
-        word: &[u8],
-    ) -> Result<(), LineFault>
+    /// Reads what is behind `flow`.
+    fn read_flow(&mut self, names: &NameIndex, words: &mut Words) -> Result<(), LineFault>
         requires { IsFor (length names.now) self.old }
         ensures { (c : Claim) → IsClaimDraft (length names.now) self.old c →
-            Reads (IsClaimDraft (length names.now)) result self.new (flow_line names.now c giver.now taker.now word.now) }
+            Reads (IsClaimDraft (length names.now)) result self.new (flow_line names.now c words.old) }
     {
-        let Some(units) = units_of(word) else {
-            return Err(LineFault::Kind(TextKind::BadNumber));
-        };
-        if !is_node(giver) {
-            return Err(LineFault::Kind(TextKind::BadName));
-        }
-        let Some(taker) = Name::read(taker) else {
-            return Err(LineFault::Kind(TextKind::BadName));
-        };
-        let Some(from) = find_node(names, giver) else {
-            return Err(LineFault::Kind(TextKind::Unknown));
-        };
-        let Some(to) = names.find(&taker) else {
-            return Err(LineFault::Kind(TextKind::Unknown));
-        };
-        let place = place_of(&from);
-        if self.units.contains(place, to.0) {
-            return Err(LineFault::Kind(TextKind::Twice));
-        }
-        let _none = self.units.insert(place, to.0, units)?;
+        let line = flow_in(names, words)?;
+        let FlowLine { from, to, units } = line;
+        let giver = place_of(&from);
+        fault_if(self.units.contains(giver, to.0), TextKind::Twice)?;
+        let _none = self.units.insert(giver, to.0, units)?;
         Ok(())
     }
 
-    /// Reads a line `pass NODE`.
-    fn read_pass(&mut self, names: &NameIndex, word: &[u8]) -> Result<(), LineFault>
+    /// Reads what is behind `pass` or `full`: a node that passes, or is full.
+    fn read_node(
+        &mut self,
+        names: &NameIndex,
+        passes: bool,
+        words: &mut Words,
+    ) -> Result<(), LineFault>
         requires { IsFor (length names.now) self.old }
         ensures { (c : Claim) → IsClaimDraft (length names.now) self.old c →
-            Reads (IsClaimDraft (length names.now)) result self.new (pass_line names.now c word.now) }
+            Reads (IsClaimDraft (length names.now)) result self.new (node_line names.now passes c words.old) }
     {
-        match self.new_node(names, word) {
-            Ok(node) => {
-                self.placed[place_of(&node) as usize] = true;
-                self.pass.push(node)?;
-                Ok(())
-            }
-            Err(kind) => Err(LineFault::Kind(kind)),
+        let node = node_in(names, words)?;
+        let place = place_of(&node) as usize;
+        fault_if(self.placed[place], TextKind::Twice)?;
+        self.placed[place] = true;
+        if passes {
+            self.pass.push(node)?;
+            return Ok(());
         }
-    }
-
-    /// Reads a line `full NODE`.
-    fn read_full(&mut self, names: &NameIndex, word: &[u8]) -> Result<(), LineFault>
-        requires { IsFor (length names.now) self.old }
-        ensures { (c : Claim) → IsClaimDraft (length names.now) self.old c →
-            Reads (IsClaimDraft (length names.now)) result self.new (full_line names.now c word.now) }
-    {
-        match self.new_node(names, word) {
-            Ok(node) => {
-                self.placed[place_of(&node) as usize] = true;
-                self.full.push(node)?;
-                Ok(())
-            }
-            Err(kind) => Err(LineFault::Kind(kind)),
-        }
-    }
-
-    /// The node of a word in a line `pass NODE` or `full NODE`, which isn't placed yet.
-    fn new_node(&self, names: &NameIndex, word: &[u8]) -> Result<Node, TextKind>
-        requires { IsFor (length names.now) self.now }
-        ensures node { (c : Claim) → IsClaimDraft (length names.now) self.now c → result ≡ placed_node names.now c word.now }
-        ensures among { IfOk result (IsNodeAmong (length names.now)) }
-    {
-        if !is_node(word) {
-            return Err(TextKind::BadName);
-        }
-        let Some(node) = find_node(names, word) else {
-            return Err(TextKind::Unknown);
-        };
-        if self.placed[place_of(&node) as usize] {
-            return Err(TextKind::Twice);
-        }
-        Ok(node)
+        self.full.push(node)?;
+        Ok(())
     }
 }

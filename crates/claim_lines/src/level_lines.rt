@@ -3,10 +3,9 @@
 ghost use Rattle.std.specs.Prelude.{◌≡◌, IfOk};
 ghost use Rattle.trust_types.specs.Levels.{IsGrade};
 ghost use Rattle.text_lines.specs.Words.{words};
-ghost use Rattle.claim_lines.specs.Claim.{begins_with_level, is_level_line, grade_in, level_line};
+ghost use Rattle.claim_lines.specs.Claim.{begins_with_level, is_level_line, grade_of, grade_in, level_line};
 
-use crate::nodes::is_same;
-use text_lines::{TextKind, Words, is_line};
+use text_lines::{TextKind, Words, fault_unless, is_line, is_same};
 use trust_types::Level;
 
 /// Whether the line ends the site: it is one whose first word is `level`. Of another line it looks at the first word alone.
@@ -35,9 +34,7 @@ pub fn read_level(line: &[u8]) -> Result<Level, TextKind>
     ensures level { result ≡ level_line line.now }
     ensures grade { IfOk result IsGrade }
 {
-    if !is_level_line(line) {
-        return Err(TextKind::BadLine);
-    }
+    fault_unless(is_level_line(line), TextKind::BadLine)?;
     grade_in(&mut Words::of(line))
 }
 
@@ -46,17 +43,16 @@ fn grade_in(words: &mut Words) -> Result<Level, TextKind>
     ensures level { result ≡ grade_in words.old }
     ensures grade { IfOk result IsGrade }
 {
-    let Some(_) = words.next_word() else {
-        return Err(TextKind::BadLine);
-    };
-    let Some(name) = words.next_word() else {
-        return Err(TextKind::BadLine);
-    };
-    if let Some(_) = words.next_word() {
-        return Err(TextKind::BadLine);
-    }
-    match Level::of_name(name) {
-        Some(level) if level.is_grade() => Ok(level),
-        _ => Err(TextKind::BadLevel),
-    }
+    let _keyword = words.first()?;
+    grade_of(words.one()?)
+}
+
+/// The grade that the word spells.
+fn grade_of(word: &[u8]) -> Result<Level, TextKind>
+    ensures level { result ≡ grade_of word.now }
+    ensures grade { IfOk result IsGrade }
+{
+    let level = Level::of_name(word).ok_or(TextKind::BadLevel)?;
+    fault_unless(level.is_grade(), TextKind::BadLevel)?;
+    Ok(level)
 }

@@ -5,10 +5,6 @@ mod drafts;
 mod flows;
 mod level_lines;
 mod nodes;
-mod units;
 
 pub use drafts::{ClaimDraft, ClaimParts};
 pub use level_lines::{is_level_line, read_level};
-
-#[cfg(test)]
-mod tests;

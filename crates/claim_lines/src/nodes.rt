@@ -1,19 +1,13 @@
 //! Words that name nodes.
 
-ghost use Rattle.std.specs.Prelude.{◌≡◌, ◌<◌, ◌≤◌, ◌^◌, IsTrue, IfSome, length};
-ghost use Rattle.std.specs.Str.{bytes_eq};
-ghost use Rattle.trust_types.specs.Lines.{place};
+ghost use Rattle.std.specs.Prelude.{◌≡◌, ◌<◌, ◌≤◌, ◌^◌, IsTrue, IfSome, IfOk, length};
+ghost use Rattle.trust_types.specs.Lines.{IsNodeAmong, place};
 ghost use Rattle.trust_types.specs.NodeWords.{is_dash, is_node, node_of};
+ghost use Rattle.claim_lines.specs.Claim.{node_in};
 
 use name_index::NameIndex;
+use text_lines::{TextKind, Words, fault_unless, is_same};
 use trust_types::{Name, Node};
-
-/// Whether the bytes are the same.
-pub(crate) fn is_same(word: &[u8], other: &[u8]) -> bool
-    ensures { result ≡ bytes_eq word.now other.now }
-{
-    word == other
-}
 
 fn is_dash(word: &[u8]) -> bool
     ensures { result ≡ is_dash word.now }
@@ -40,6 +34,16 @@ pub(crate) fn find_node(names: &NameIndex, word: &[u8]) -> Option<Node>
     let name = Name::read(word)?;
     let account = names.find(&name)?;
     Some(Node::Account(account))
+}
+
+/// The node behind `pass` or `full`.
+pub(crate) fn node_in(names: &NameIndex, words: &mut Words) -> Result<Node, TextKind>
+    ensures node { result ≡ node_in names.now words.old }
+    ensures among { IfOk result (IsNodeAmong (length names.now)) }
+{
+    let word = words.one()?;
+    fault_unless(is_node(word), TextKind::BadName)?;
+    find_node(names, word).ok_or(TextKind::Unknown)
 }
 
 /// The node's place in the order of nodes.

@@ -4,6 +4,3 @@
 mod pair_maps;
 
 pub use pair_maps::PairMap;
-
-#[cfg(test)]
-mod tests;

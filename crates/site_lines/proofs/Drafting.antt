@@ -1,5 +1,5 @@
 -- What a draft tells of the records so far, and that it tells it after one record more.
-use Rattle.std.proofs.Common.{bytes_eq, ◌≡◌, ◌≢◌, ℕ, zero, suc, ◌+◌, ◌<◌, ◌≤◌, Bool, true, false, ◌||◌, cond, List, [], ◌∷◌, ◌++◌, length, get_or, set, Option, Some, None, refl, sym, ◌∙◌, ap, arith, nat_le, nat_lt, nat_eq}
+use Rattle.std.proofs.Common.{bytes_eq, ◌≡◌, ◌≢◌, ℕ, zero, suc, ◌+◌, ◌<◌, ◌≤◌, Bool, true, false, ◌||◌, cond, List, [], ◌∷◌, ◌++◌, length, get_or, set, Option, Some, None, Result, Ok, subst, refl, sym, ◌∙◌, ap, arith, nat_le, nat_lt, nat_eq}
 use Rattle.std.specs.Prelude.{position, IfSome}
 use Rattle.std.specs.List.{All}
 use Rattle.std.proofs.lemmas.List.{length_push, append-nil, length-set, get_or-set_same, get_or-set_other}
@@ -9,27 +9,24 @@ use Rattle.std.proofs.lemmas.List.Sums.{prefix_len-le-length}
 use Rattle.std.proofs.lemmas.Option.{cond_some}
 use Rattle.std.proofs.Math.Bool.{or-true, or-false}
 use Rattle.trust_types.specs.declared.graphs.Cert.{Cert}
+use Rattle.trust_types.specs.declared.limits.TheConstants.{MOST_ACCOUNTS}
 use Rattle.trust_types.specs.declared.records.Record.{Record}
 use Rattle.trust_types.specs.Kept.{accounts, is_seed, certs_of, names_seed, cert_of, joined_name}
 use Rattle.trust_types.specs.NameLists.{number_of}
+use Rattle.std.specs.Option.{ok_or}
+use Rattle.trust_types.specs.declared.levels.Level.{Level}
+use Rattle.trust_types.specs.Levels.{level_of}
+use Rattle.text_lines.specs.declared.faults.TextKind.{TextKind}
+use Rattle.text_lines.specs.declared.faults.TextKind.TheVariants.{BadLevel, Unknown, SelfCert}
+use Rattle.text_lines.specs.Steps.{fault_if}
+use Rattle.text_lines.specs.Places.{three_words, name_in}
+use Rattle.text_lines.proofs.Stepping.{bind-ok, ok_or-ok, fault_if-ok}
 use Rattle.cert_log.specs.Log.{IsLog}
 use Rattle.cert_log.specs.Standing.{IsBetween}
-use Rattle.site_lines.specs.Site.{join, seed, cert}
+use Rattle.site_lines.specs.Site.{join, seed, cert, pair_in, given_cert}
 use Rattle.site_lines.specs.Drafts.{IsSiteDraft}
 use Rattle.site_lines.specs.declared.drafts.SiteDraft.{SiteDraft}
 use Rattle.site_lines.specs.declared.drafts.Known.{Known}
-
-pub cond_none : {A : Type 0} (b : Bool) (x : A) → None ≡ cond b (Some x) None → b ≡ false
-cond_none true x e = cc
-cond_none false x e = refl
-
-pub cond_some_is : {A : Type 0} (b : Bool) (x y : A) → Some y ≡ cond b (Some x) None → (b ≡ true) × (y ≡ x)
-cond_some_is true x y e = (refl, cc)
-cond_some_is false x y e = cc
-
--- what a look-up in a draft answers
-pub found : (d : SiteDraft) (k : List Record) (word name : List ℕ) (r : Option ℕ) → IsSiteDraft d k → name ≡ word → r ≡ number_of d.names name → r ≡ number_of (accounts k) word
-found d k word name r is e r_is = r_is ∙ rw (is.named, e) refl
 
 pub below : {X : Type 0} (p : X → Bool) (xs : List X) (i : ℕ) → position p xs ≡ Some i → i < length xs
 below p xs i e = let both = cond_some _ _ _ e in grind (arith, both.0, both.1)
@@ -56,21 +53,20 @@ known_more : (last : Option Known) (names : List (List ℕ)) (new : List ℕ) �
 known_more None names new is = tt
 known_more (Some known) names new is = number-push names new known.name known.account is
 
-pub draft-join : (d new : SiteDraft) (k : List Record) (word name : List ℕ) → IsSiteDraft d k → name ≡ word
-    → new.names ≡ d.names ++ name ∷ [] → new.seeds.items ≡ d.seeds.items ++ false ∷ [] → new.certs ≡ d.certs → new.giver ≡ d.giver → nat_le 100000 (length (accounts k)) ≡ false
-    → IsSiteDraft new (k ++ join word ∷ [])
-draft-join d new k w name is e ne fe ce ge few =
-    let acc : accounts (k ++ join w ∷ []) ≡ accounts k ++ w ∷ [] = filter_map-append joined_name k (join w ∷ []) in
-    let more : length (accounts (k ++ join w ∷ [])) ≡ length (accounts k) + 1 = ap length acc ∙ length_push (accounts k) w in
-    let less : length (accounts k) < 100000 = grind arith in
-    let given : certs_of (k ++ join w ∷ []) ≡ certs_of k = filter_map-append cert_of k (join w ∷ []) ∙ append-nil (certs_of k) in
+pub draft-join : (d new : SiteDraft) (k : List Record) (name : List ℕ) → IsSiteDraft d k
+    → new.names ≡ d.names ++ name ∷ [] → new.seeds.items ≡ d.seeds.items ++ false ∷ [] → new.certs ≡ d.certs → new.giver ≡ d.giver → length d.names < MOST_ACCOUNTS
+    → IsSiteDraft new (k ++ join name ∷ [])
+draft-join d new k name is ne fe ce ge less =
+    let acc : accounts (k ++ join name ∷ []) ≡ accounts k ++ name ∷ [] = filter_map-append joined_name k (join name ∷ []) in
+    let more : length (accounts (k ++ join name ∷ [])) ≡ length (accounts k) + 1 = ap length acc ∙ length_push (accounts k) name in
+    let given : certs_of (k ++ join name ∷ []) ≡ certs_of k = filter_map-append cert_of k (join name ∷ []) ∙ append-nil (certs_of k) in
     record {
-      named = ne ∙ ap (λ xs. xs ++ name ∷ []) is.named ∙ ap (λ x. accounts k ++ x ∷ []) e ∙ sym acc;
-      few = rw more (omega arith);
+      named = ne ∙ ap (λ xs. xs ++ name ∷ []) is.named ∙ sym acc;
+      few = rw more (omega (arith, less, ap length is.named));
       flags = ap length fe ∙ length_push d.seeds.items false ∙ ap (λ m. m + 1) is.flags ∙ sym more;
-      seeded = λ a. ap (λ xs. get_or xs a false) fe ∙ get_or-push_default d.seeds.items a false ∙ is.seeded a ∙ sym (list_any-append (names_seed a) k (join w ∷ []) ∙ or-false (is_seed k a));
+      seeded = λ a. ap (λ xs. get_or xs a false) fe ∙ get_or-push_default d.seeds.items a false ∙ is.seeded a ∙ sym (list_any-append (names_seed a) k (join name ∷ []) ∙ or-false (is_seed k a));
       logged = rw (ce, given) is.logged;
-      known = rw (ge, acc) (known_more d.giver (accounts k) w is.known);
+      known = rw (ge, acc) (known_more d.giver (accounts k) name is.known);
       between = rw given (between_more _ _ _ (rw more (omega arith)) is.between);
     }
 
@@ -112,12 +108,29 @@ draft-cert d new k c is between ne fe ce ge =
       between = rw (acc, given-push k c) (All-push (IsBetween (length (accounts k))) (certs_of k) c is.between between);
     }
 
--- whether one more certificate fits, as the two tests say it
-pub too_many : (b : Bool) (n : ℕ) → b ≡ false → b ≡ nat_le n 2000000 → nat_lt 2000000 n ≡ true
-too_many b n is e = grind arith
+pair-between : (names : List (List ℕ)) (giver taker : List ℕ) (pair : ℕ × ℕ) (level : Level) → pair_in names giver taker ≡ Ok pair → IsBetween (length names) (record { from = pair.0; to = pair.1; level = level })
+pair-between names giver taker pair level e =
+    let from = bind-ok (name_in giver) _ pair e in
+    let to = bind-ok (name_in taker) _ pair from.2 in
+    let a = bind-ok (ok_or (number_of names from.0) Unknown) _ pair to.2 in
+    let b = bind-ok (ok_or (number_of names to.0) Unknown) _ pair a.2 in
+    let apart = bind-ok (fault_if (nat_eq a.0 b.0) SelfCert) _ pair b.2 in
+    let other : nat_eq a.0 b.0 ≡ false = fault_if-ok (nat_eq a.0 b.0) SelfCert apart.0 apart.1 in
+    let is : ◌≡◌ {A = Result (ℕ × ℕ) TextKind} (Ok (a.0, b.0)) (Ok pair) = apart.2 in
+    let same : (a.0, b.0) ≡ pair = cc in
+    subst (λ (p : ℕ × ℕ). IsBetween (length names) (record { from = p.0; to = p.1; level = level })) same (record {
+      giver = below (λ (m : List ℕ). bytes_eq m from.0) names a.0 (ok_or-ok _ Unknown a.0 a.1);
+      taker = below (λ (m : List ℕ). bytes_eq m to.0) names b.0 (ok_or-ok _ Unknown b.0 b.1);
+      others = λ same. grind arith;
+    })
 
-pub not_many : (b : Bool) (n : ℕ) → b ≡ true → b ≡ nat_le n 2000000 → nat_lt 2000000 n ≡ false
-not_many b n is e = grind arith
-
-pub apart_from : (a b : ℕ) → nat_eq a b ≡ false → a ≢ b
-apart_from a b h same = grind arith
+-- A certificate that a line gives is between two of the accounts.
+pub given-between : (k : List Record) (ws : List (List ℕ)) (c : Cert) → given_cert (accounts k) ws ≡ Ok c → IsBetween (length (accounts k)) c
+given-between k ws c e =
+    let three = bind-ok (three_words ws) _ c e in
+    let level = bind-ok (ok_or (level_of three.0.2) BadLevel) _ c three.2 in
+    let pair = bind-ok (pair_in (accounts k) three.0.0 three.0.1) _ c level.2 in
+    let given : Cert = record { from = pair.0.0; to = pair.0.1; level = level.0 } in
+    let is : ◌≡◌ {A = Result Cert TextKind} (Ok given) (Ok c) = pair.2 in
+    let same : given ≡ c = cc in
+    subst (IsBetween (length (accounts k))) same (pair-between (accounts k) three.0.0 three.0.1 pair.0 level.0 pair.1)

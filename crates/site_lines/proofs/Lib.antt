@@ -1,5 +1,4 @@
 mod Saying
-mod Forming
 mod Drafting
 mod Entering
 mod Marking

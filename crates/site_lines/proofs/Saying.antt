@@ -1,110 +1,104 @@
--- What a line says, by the tests that it passes.
-use Rattle.std.proofs.Common.{◌≡◌, ℕ, true, false, List, [], ◌∷◌, ◌++◌, length, Some, None, Ok, Err, refl, nat_le, nat_lt, nat_eq, is_some, bytes_eq, codes}
-use Rattle.trust_types.specs.declared.levels.Level.{Level}
+-- What a line says by its first word, and that a line that says something is one, since its words are keywords, names and levels.
+use Rattle.std.proofs.Common.{◌≡◌, ℕ, Bool, true, false, List, [], ◌∷◌, ◌++◌, length, Result, Ok, Err, is_err, is_some, refl, sym, ap, ◌∙◌, codes, bytes_eq, subst, nat_eq, nat_le, nat_lt}
+use Rattle.std.specs.List.{list_all}
+use Rattle.std.specs.Option.{ok_or}
+use Rattle.std.proofs.lemmas.Slice.Eq.{bytes_eq-Decides}
+use Rattle.trust_types.specs.declared.graphs.Cert.{Cert}
 use Rattle.trust_types.specs.declared.records.Record.{Record}
 use Rattle.trust_types.specs.Levels.{level_of}
-use Rattle.trust_types.specs.Names.{is_name}
 use Rattle.trust_types.specs.NameLists.{number_of}
-use Rattle.trust_types.specs.Kept.{accounts, is_seed, certs_of, standing_count}
-use Rattle.text_lines.specs.declared.faults.TextKind.TheVariants.{BadLine, BadLevel, BadName, Unknown, SelfCert, Twice, TooMany}
-use Rattle.site_lines.specs.Site.{join, seed, cert, account_line, seed_line, cert_line, form}
+use Rattle.trust_types.specs.Kept.{accounts}
+use Rattle.text_lines.specs.declared.faults.LineFault.{LineFault}
+use Rattle.text_lines.specs.declared.faults.TextKind.TheVariants.{BadLine}
+use Rattle.text_lines.specs.declared.faults.LineFault.TheVariants.{Kind, NoMemory}
+use Rattle.text_lines.specs.Places.{one_word, three_words, name_in}
+use Rattle.text_lines.specs.Reading.{Reads}
+use Rattle.text_lines.specs.Steps.{◌>>=◌}
+use Rattle.text_lines.specs.Words.{words, is_word, is_line}
+use Rattle.text_lines.proofs.Spelled.{is_word-name, is_word-level_of}
+use Rattle.text_lines.proofs.Stepping.{bind-ok, ok_or-ok, one_word-ok, three_words-ok, name_in-ok}
+use Rattle.site_lines.specs.Site.{new_name, known_account, given_cert, pair_in, account_line, seed_line, cert_line, form, site_line}
+use Rattle.site_lines.specs.Drafts.{IsSiteDraft, Adds}
+use Rattle.site_lines.specs.declared.drafts.SiteDraft.{SiteDraft}
 
-pub account-bad_name : (k : List Record) (w : List ℕ) → is_name w ≡ false → account_line k w ≡ Err BadName
+one_name : (ws : List (List ℕ)) (w name : List ℕ) → one_word ws ≡ Ok w → name_in w ≡ Ok name → list_all is_word ws ≡ true
+one_name ws w name e f = rw (one_word-ok ws w e, is_word-name w (name_in-ok w name f).1) refl
+
+account-words : (k : List Record) (ws : List (List ℕ)) (x : Record) → account_line k ws ≡ Ok x → list_all is_word ws ≡ true
 unfolding account_line
-account-bad_name k w a = rw a refl
+account-words k ws x e =
+    let whole = bind-ok (new_name (accounts k) ws) _ x e in
+    let word = bind-ok (one_word ws) _ whole.0 whole.1 in
+    let name = bind-ok (name_in word.0) _ whole.0 word.2 in
+    one_name ws word.0 name.0 word.1 name.1
 
-pub account-twice : (k : List Record) (w : List ℕ) → is_name w ≡ true → is_some (number_of (accounts k) w) ≡ true → account_line k w ≡ Err Twice
-unfolding account_line
-account-twice k w a b = rw (a, b) refl
-
-pub account-many : (k : List Record) (w : List ℕ) → is_name w ≡ true → is_some (number_of (accounts k) w) ≡ false → nat_le 100000 (length (accounts k)) ≡ true → account_line k w ≡ Err TooMany
-unfolding account_line
-account-many k w a b c = rw (a, b, c) refl
-
-pub account-ok : (k : List Record) (w : List ℕ) → is_name w ≡ true → is_some (number_of (accounts k) w) ≡ false → nat_le 100000 (length (accounts k)) ≡ false → account_line k w ≡ Ok (join w)
-unfolding account_line
-account-ok k w a b c = rw (a, b, c) refl
-
-pub seed-bad_name : (k : List Record) (w : List ℕ) → is_name w ≡ false → seed_line k w ≡ Err BadName
+seed-words : (k : List Record) (ws : List (List ℕ)) (x : Record) → seed_line k ws ≡ Ok x → list_all is_word ws ≡ true
 unfolding seed_line
-seed-bad_name k w a = rw a refl
+seed-words k ws x e =
+    let whole = bind-ok (known_account (accounts k) ws) _ x e in
+    let word = bind-ok (one_word ws) _ whole.0 whole.1 in
+    let name = bind-ok (name_in word.0) _ whole.0 word.2 in
+    one_name ws word.0 name.0 word.1 name.1
 
-pub seed-unknown : (k : List Record) (w : List ℕ) → is_name w ≡ true → number_of (accounts k) w ≡ None → seed_line k w ≡ Err Unknown
-unfolding seed_line
-seed-unknown k w a b = rw (a, b) refl
-
-pub seed-twice : (k : List Record) (w : List ℕ) (i : ℕ) → is_name w ≡ true → number_of (accounts k) w ≡ Some i → is_seed k i ≡ true → seed_line k w ≡ Err Twice
-unfolding seed_line
-seed-twice k w i a b c = rw (a, b, c) refl
-
-pub seed-ok : (k : List Record) (w : List ℕ) (i : ℕ) → is_name w ≡ true → number_of (accounts k) w ≡ Some i → is_seed k i ≡ false → seed_line k w ≡ Ok (seed i)
-unfolding seed_line
-seed-ok k w i a b c = rw (a, b, c) refl
-
-pub cert-bad_level : (k : List Record) (g t w : List ℕ) → level_of w ≡ None → cert_line k g t w ≡ Err BadLevel
+cert-words : (k : List Record) (ws : List (List ℕ)) (x : Record) → cert_line k ws ≡ Ok x → list_all is_word ws ≡ true
 unfolding cert_line
-cert-bad_level k g t w a = rw a refl
+cert-words k ws x e =
+    let whole = bind-ok (given_cert (accounts k) ws) _ x e in
+    let three = bind-ok (three_words ws) _ whole.0 whole.1 in
+    let level = bind-ok (ok_or (level_of three.0.2) _) _ whole.0 three.2 in
+    let pair = bind-ok (pair_in (accounts k) three.0.0 three.0.1) _ whole.0 level.2 in
+    let giver = bind-ok (name_in three.0.0) _ pair.0 pair.1 in
+    let taker = bind-ok (name_in three.0.1) _ pair.0 giver.2 in
+    rw (three_words-ok ws three.0 three.1, is_word-name three.0.0 (name_in-ok three.0.0 giver.0 giver.1).1, is_word-name three.0.1 (name_in-ok three.0.1 taker.0 taker.1).1,
+    is_word-level_of three.0.2 level.0 (ok_or-ok _ _ level.0 level.1)) refl
 
-pub cert-bad_giver : (k : List Record) (g t w : List ℕ) (l : Level) → level_of w ≡ Some l → is_name g ≡ false → cert_line k g t w ≡ Err BadName
-unfolding cert_line
-cert-bad_giver k g t w l a b = rw (a, b) refl
+keyword : (word other : List ℕ) (ws : List (List ℕ)) → bytes_eq word other ≡ true → is_word other ≡ true → list_all is_word ws ≡ true → list_all is_word (word ∷ ws) ≡ true
+keyword word other ws same is each = rw ((bytes_eq-Decides word other).0 same, is, each) refl
 
-pub cert-bad_taker : (k : List Record) (g t w : List ℕ) (l : Level) → level_of w ≡ Some l → is_name g ≡ true → is_name t ≡ false → cert_line k g t w ≡ Err BadName
-unfolding cert_line
-cert-bad_taker k g t w l a b c = rw (a, b, c) refl
+words_by : (k : List Record) (word : List ℕ) (ws : List (List ℕ)) (x : Record) (account seed cert : Bool) → bytes_eq word (codes "account") ≡ account → bytes_eq word (codes "seed") ≡ seed → bytes_eq word (codes "cert") ≡ cert →
+    form k (word ∷ ws) ≡ Ok x → list_all is_word (word ∷ ws) ≡ true
+unfolding form
+words_by k word ws x true seed cert a s c e = keyword word (codes "account") ws a refl (account-words k ws x (rw a at e))
+words_by k word ws x false true cert a s c e = keyword word (codes "seed") ws s refl (seed-words k ws x (rw (a, s) at e))
+words_by k word ws x false false true a s c e = keyword word (codes "cert") ws c refl (cert-words k ws x (rw (a, s, c) at e))
+words_by k word ws x false false false a s c e = let clash : Err BadLine ≡ Ok x = rw (a, s, c) at e in cc
 
-pub cert-no_giver : (k : List Record) (g t w : List ℕ) (l : Level) → level_of w ≡ Some l → is_name g ≡ true → is_name t ≡ true → number_of (accounts k) g ≡ None → cert_line k g t w ≡ Err Unknown
-unfolding cert_line
-cert-no_giver k g t w l a b c d = rw (a, b, c, d) refl
+form-words : (k : List Record) (ws : List (List ℕ)) (x : Record) → form k ws ≡ Ok x → list_all is_word ws ≡ true
+unfolding form
+form-words k [] x e = cc
+form-words k (word ∷ ws) x e = words_by k word ws x (bytes_eq word (codes "account")) (bytes_eq word (codes "seed")) (bytes_eq word (codes "cert")) refl refl refl e
 
-pub cert-no_taker : (k : List Record) (g t w : List ℕ) (l : Level) (i : ℕ) → level_of w ≡ Some l → is_name g ≡ true → is_name t ≡ true → number_of (accounts k) g ≡ Some i → number_of (accounts k) t ≡ None → cert_line k g t w ≡ Err Unknown
-unfolding cert_line
-cert-no_taker k g t w l i a b c d e = rw (a, b, c, d, e) refl
+-- Of a line that is one the words decide.
+pub reads-line : (k : List Record) (line : List ℕ) (result : Result (Unit {0}) LineFault) (new : SiteDraft) → is_line line ≡ true → Adds k result new (form k (words line)) → Reads IsSiteDraft result new (site_line k line)
+unfolding site_line
+reads-line k line (Ok u) new one (x, said, is) = (k ++ x ∷ [], rw (one, said) refl, is)
+reads-line k line (Err NoMemory) new one adds = tt
+reads-line k line (Err (Kind kind)) new one adds = rw (one, adds) refl
 
-pub cert-self : (k : List Record) (g t w : List ℕ) (l : Level) (i j : ℕ) → level_of w ≡ Some l → is_name g ≡ true → is_name t ≡ true → number_of (accounts k) g ≡ Some i → number_of (accounts k) t ≡ Some j → nat_eq i j ≡ true → cert_line k g t w ≡ Err SelfCert
-unfolding cert_line
-cert-self k g t w l i j a b c d e f = rw (a, b, c, d, e, f) refl
+-- A line whose words were read is one.
+pub reads-words : (k : List Record) (line : List ℕ) (result : Result (Unit {0}) LineFault) (new : SiteDraft) → is_err result ≡ false → Adds k result new (form k (words line)) → Reads IsSiteDraft result new (site_line k line)
+reads-words k line (Ok u) new read adds = reads-line k line (Ok u) new (form-words k (words line) adds.0 adds.1) adds
+reads-words k line (Err fault) new read adds = cc
 
-pub cert-many : (k : List Record) (g t w : List ℕ) (l : Level) (i j : ℕ) → level_of w ≡ Some l → is_name g ≡ true → is_name t ≡ true → number_of (accounts k) g ≡ Some i → number_of (accounts k) t ≡ Some j → nat_eq i j ≡ false → nat_lt 2000000 (standing_count (certs_of (k ++ cert i j l ∷ []))) ≡ true → cert_line k g t w ≡ Err TooMany
-unfolding cert_line
-cert-many k g t w l i j a b c d e f h = rw (a, b, c, d, e, f, h) refl
-
-pub cert-ok : (k : List Record) (g t w : List ℕ) (l : Level) (i j : ℕ) → level_of w ≡ Some l → is_name g ≡ true → is_name t ≡ true → number_of (accounts k) g ≡ Some i → number_of (accounts k) t ≡ Some j → nat_eq i j ≡ false → nat_lt 2000000 (standing_count (certs_of (k ++ cert i j l ∷ []))) ≡ false → cert_line k g t w ≡ Ok (cert i j l)
-unfolding cert_line
-cert-ok k g t w l i j a b c d e f h = rw (a, b, c, d, e, f, h) refl
-
+-- What a line says by its first word.
 pub form-none : (k : List Record) (ws : List (List ℕ)) → ws ≡ [] → form k ws ≡ Err BadLine
 unfolding form
 form-none k ws e = rw e refl
 
-pub form-one : (k : List Record) (ws us : List (List ℕ)) (a : List ℕ) → ws ≡ a ∷ us → us ≡ [] → form k ws ≡ Err BadLine
+pub form-account : (k : List Record) (ws others : List (List ℕ)) (word : List ℕ) → ws ≡ word ∷ others → bytes_eq word (codes "account") ≡ true → form k ws ≡ account_line k others
 unfolding form
-form-one k ws us a e f = rw (e, f) refl
+form-account k ws others word e a = rw (e, a) refl
 
-pub form-account : (k : List Record) (ws us vs : List (List ℕ)) (a b : List ℕ) → ws ≡ a ∷ us → us ≡ b ∷ vs → vs ≡ [] → bytes_eq a (codes "account") ≡ true → form k ws ≡ account_line k b
+pub form-seed : (k : List Record) (ws others : List (List ℕ)) (word : List ℕ) → ws ≡ word ∷ others → bytes_eq word (codes "account") ≡ false → bytes_eq word (codes "seed") ≡ true → form k ws ≡ seed_line k others
 unfolding form
-form-account k ws us vs a b e f g h = rw (e, f, g, h) refl
+form-seed k ws others word e a s = rw (e, a, s) refl
 
-pub form-seed : (k : List Record) (ws us vs : List (List ℕ)) (a b : List ℕ) → ws ≡ a ∷ us → us ≡ b ∷ vs → vs ≡ [] → bytes_eq a (codes "account") ≡ false → bytes_eq a (codes "seed") ≡ true → form k ws ≡ seed_line k b
+pub form-cert : (k : List Record) (ws others : List (List ℕ)) (word : List ℕ) → ws ≡ word ∷ others → bytes_eq word (codes "account") ≡ false → bytes_eq word (codes "seed") ≡ false → bytes_eq word (codes "cert") ≡ true →
+    form k ws ≡ cert_line k others
 unfolding form
-form-seed k ws us vs a b e f g h i = rw (e, f, g, h, i) refl
+form-cert k ws others word e a s c = rw (e, a, s, c) refl
 
-pub form-two : (k : List Record) (ws us vs : List (List ℕ)) (a b : List ℕ) → ws ≡ a ∷ us → us ≡ b ∷ vs → vs ≡ [] → bytes_eq a (codes "account") ≡ false → bytes_eq a (codes "seed") ≡ false → form k ws ≡ Err BadLine
+pub form-other : (k : List Record) (ws others : List (List ℕ)) (word : List ℕ) → ws ≡ word ∷ others → bytes_eq word (codes "account") ≡ false → bytes_eq word (codes "seed") ≡ false → bytes_eq word (codes "cert") ≡ false →
+    form k ws ≡ Err BadLine
 unfolding form
-form-two k ws us vs a b e f g h i = rw (e, f, g, h, i) refl
-
-pub form-three : (k : List Record) (ws us vs xs : List (List ℕ)) (a b c : List ℕ) → ws ≡ a ∷ us → us ≡ b ∷ vs → vs ≡ c ∷ xs → xs ≡ [] → form k ws ≡ Err BadLine
-unfolding form
-form-three k ws us vs xs a b c e f g h = rw (e, f, g, h) refl
-
-pub form-five : (k : List Record) (ws us vs xs ys zs : List (List ℕ)) (a b c d x : List ℕ) → ws ≡ a ∷ us → us ≡ b ∷ vs → vs ≡ c ∷ xs → xs ≡ d ∷ ys → ys ≡ x ∷ zs → form k ws ≡ Err BadLine
-unfolding form
-form-five k ws us vs xs ys zs a b c d x e f g h i = rw (e, f, g, h, i) refl
-
-pub form-cert : (k : List Record) (ws us vs xs ys : List (List ℕ)) (a b c d : List ℕ) → ws ≡ a ∷ us → us ≡ b ∷ vs → vs ≡ c ∷ xs → xs ≡ d ∷ ys → ys ≡ [] → bytes_eq a (codes "cert") ≡ true → form k ws ≡ cert_line k b c d
-unfolding form
-form-cert k ws us vs xs ys a b c d e f g h i j = rw (e, f, g, h, i, j) refl
-
-pub form-four : (k : List Record) (ws us vs xs ys : List (List ℕ)) (a b c d : List ℕ) → ws ≡ a ∷ us → us ≡ b ∷ vs → vs ≡ c ∷ xs → xs ≡ d ∷ ys → ys ≡ [] → bytes_eq a (codes "cert") ≡ false → form k ws ≡ Err BadLine
-unfolding form
-form-four k ws us vs xs ys a b c d e f g h i j = rw (e, f, g, h, i, j) refl
+form-other k ws others word e a s c = rw (e, a, s, c) refl

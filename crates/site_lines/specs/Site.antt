@@ -1,27 +1,30 @@
 -- What the lines of a site stand for: its capacity table, and kept records without moments and secrets.
-use Rattle.std.specs.Prelude.{ℕ, not, List, [], ◌∷◌, ◌++◌, Result, Ok, Err, ◌==◌, nat_le, nat_lt, length, codes, if◌then◌else◌, is_some}
+use Rattle.std.specs.Prelude.{ℕ, List, [], ◌∷◌, ◌++◌, Result, Ok, Err, ◌==◌, nat_le, nat_lt, length, codes, if◌then◌else◌, is_some}
+use Rattle.std.specs.Option.{ok_or}
 use Rattle.std.specs.Str.{bytes_eq}
 use Rattle.trust_types.specs.declared.levels.Level.{Level}
+use Rattle.trust_types.specs.declared.graphs.Cert.{Cert as Certificate}
+use Rattle.trust_types.specs.declared.limits.TheConstants.{MOST_ACCOUNTS, MOST_CERTS}
 use Rattle.trust_types.specs.declared.records.Record.{Record}
 use Rattle.trust_types.specs.declared.records.Record.TheVariants.{Join, Seed, Cert}
 use Rattle.trust_types.specs.declared.records.Secret.TheVariants.{Absent}
 use Rattle.trust_types.specs.Levels.{level_of}
-use Rattle.trust_types.specs.Names.{is_name}
 use Rattle.trust_types.specs.NameLists.{number_of}
 use Rattle.trust_types.specs.Tables.{table, standard_table}
 use Rattle.trust_types.specs.Kept.{accounts, is_seed, certs_of, standing_count}
 use Rattle.text_lines.specs.declared.faults.TextKind.{TextKind}
-use Rattle.text_lines.specs.declared.faults.TextKind.TheVariants.{BadLine, BadNumber, BadLevel, BadName, Unknown, SelfCert, Twice, TooMany}
+use Rattle.text_lines.specs.declared.faults.TextKind.TheVariants.{BadLine, BadNumber, BadLevel, Unknown, SelfCert, Twice, TooMany}
 use Rattle.text_lines.specs.Faults.{kind_of_table}
 use Rattle.text_lines.specs.Words.{words, is_line}
 use Rattle.text_lines.specs.Numbers.{number}
-use Rattle.text_lines.specs.Steps.{◌>>=◌, or_fault, none_if}
+use Rattle.text_lines.specs.Steps.{◌>>=◌, fault_if, fault_unless}
+use Rattle.text_lines.specs.Places.{one_word, three_words, name_in}
 
 -- The numbers that all of the words write.
 abbrev pub numbers : List (List ℕ) → Result (List ℕ) TextKind
 numbers [] = Ok []
 numbers (word ∷ others) = do
-  n ← or_fault (number word) BadNumber
+  n ← ok_or (number word) BadNumber
   ns ← numbers others
   Ok (n ∷ ns)
 
@@ -51,46 +54,71 @@ seed a = Seed 0 a
 abbrev pub cert : ℕ → ℕ → Level → Record
 cert a b level = Cert 0 a b level
 
+-- The name behind `account`, which no account has yet.
+abbrev pub new_name : List (List ℕ) → List (List ℕ) → Result (List ℕ) TextKind
+new_name names words = do
+  word ← one_word words
+  name ← name_in word
+  _ ← fault_if (is_some (number_of names name)) Twice
+  _ ← fault_unless (nat_lt (length names) MOST_ACCOUNTS) TooMany
+  Ok name
+
 -- `account NAME`: the next account.
-unfoldable pub account_line : List Record → List ℕ → Result Record TextKind
-account_line k name = do
-  _ ← none_if (not (is_name name)) BadName
-  _ ← none_if (is_some (number_of (accounts k) name)) Twice
-  _ ← none_if (nat_le 100000 (length (accounts k))) TooMany
+unfoldable pub account_line : List Record → List (List ℕ) → Result Record TextKind
+account_line k words = do
+  name ← new_name (accounts k) words
   Ok (join name)
 
+-- The account behind `seed`.
+abbrev pub known_account : List (List ℕ) → List (List ℕ) → Result ℕ TextKind
+known_account names words = do
+  word ← one_word words
+  name ← name_in word
+  ok_or (number_of names name) Unknown
+
 -- `seed NAME`: an account is a seed.
-unfoldable pub seed_line : List Record → List ℕ → Result Record TextKind
-seed_line k name = do
-  _ ← none_if (not (is_name name)) BadName
-  a ← or_fault (number_of (accounts k) name) Unknown
-  _ ← none_if (is_seed k a) Twice
+unfoldable pub seed_line : List Record → List (List ℕ) → Result Record TextKind
+seed_line k words = do
+  a ← known_account (accounts k) words
+  _ ← fault_if (is_seed k a) Twice
   Ok (seed a)
 
+-- Two accounts by their names: both words are names before either is looked up.
+abbrev pub pair_in : List (List ℕ) → List ℕ → List ℕ → Result (ℕ × ℕ) TextKind
+pair_in names giver taker = do
+  from ← name_in giver
+  to ← name_in taker
+  a ← ok_or (number_of names from) Unknown
+  b ← ok_or (number_of names to) Unknown
+  _ ← fault_if (a == b) SelfCert
+  Ok (a, b)
+
+-- The certificate behind `cert`.
+abbrev pub given_cert : List (List ℕ) → List (List ℕ) → Result Certificate TextKind
+given_cert names words = do
+  ws ← three_words words
+  level ← ok_or (level_of ws.2) BadLevel
+  pair ← pair_in names ws.0 ws.1
+  Ok (record { from = pair.0; to = pair.1; level = level })
+
 -- `cert NAME NAME LEVEL`: the first account certifies the second, in place of what it said before.
-unfoldable pub cert_line : List Record → List ℕ → List ℕ → List ℕ → Result Record TextKind
-cert_line k giver taker word = do
-  level ← or_fault (level_of word) BadLevel
-  _ ← none_if (not (is_name giver)) BadName
-  _ ← none_if (not (is_name taker)) BadName
-  a ← or_fault (number_of (accounts k) giver) Unknown
-  b ← or_fault (number_of (accounts k) taker) Unknown
-  _ ← none_if (a == b) SelfCert
-  _ ← none_if (nat_lt 2000000 (standing_count (certs_of (k ++ cert a b level ∷ [])))) TooMany
-  Ok (cert a b level)
+unfoldable pub cert_line : List Record → List (List ℕ) → Result Record TextKind
+cert_line k words = do
+  c ← given_cert (accounts k) words
+  _ ← fault_unless (nat_le (standing_count (certs_of k ++ c ∷ [])) MOST_CERTS) TooMany
+  Ok (cert c.from c.to c.level)
 
 -- A line that is one of the forms, by its words.
 unfoldable pub form : List Record → List (List ℕ) → Result Record TextKind
-form k (word ∷ name ∷ []) =
-    if bytes_eq word (codes "account") then account_line k name else
-    if bytes_eq word (codes "seed") then seed_line k name else Err BadLine
-form k (word ∷ giver ∷ taker ∷ level ∷ []) =
-    if bytes_eq word (codes "cert") then cert_line k giver taker level else Err BadLine
-form k _ = Err BadLine
+form k [] = Err BadLine
+form k (word ∷ words) =
+    if bytes_eq word (codes "account") then account_line k words else
+    if bytes_eq word (codes "seed") then seed_line k words else
+    if bytes_eq word (codes "cert") then cert_line k words else Err BadLine
 
 -- The records after one line more of a site with these; or the line's fault.
 unfoldable pub site_line : List Record → List ℕ → Result (List Record) TextKind
 site_line k line = do
-  _ ← none_if (not (is_line line)) BadLine
+  _ ← fault_unless (is_line line) BadLine
   x ← form k (words line)
   Ok (k ++ x ∷ [])

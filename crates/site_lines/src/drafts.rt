@@ -1,17 +1,15 @@
 //! What is read of a site so far.
 
 ghost use Rattle.std.specs.Prelude.{◌≤◌, length, vec_len};
+ghost use Rattle.trust_types.specs.declared.limits.TheConstants.{MOST_ACCOUNTS};
 
-use crate::forms::is_same;
+use crate::accounts::{known_account, new_name};
 use crate::seeds::mark;
 use cert_log::CertLog;
-use std::alloc::Global;
-use text_lines::{LineFault, TextKind, Words, is_line};
 use name_index::NameIndex;
+use std::alloc::Global;
+use text_lines::{LineFault, TextKind, Words, fault_if, fault_unless, is_line, is_same, name_in};
 use trust_types::{AccountNo, Cert, Level, Name, NoMemory};
-
-/// The most accounts.
-const MOST_ACCOUNTS: usize = 100_000;
 
 /// A site while its lines are read: its accounts, seeds and certificates so far. Contracts tell of which records it is a
 /// draft.
@@ -23,7 +21,7 @@ pub struct SiteDraft {
     pub(crate) certs: CertLog,
     /// The last giver: in a text in order, most certificates are of the giver of the one before.
     pub(crate) giver: Option<Known>,
-    ghost few: { length names ≤ 100000 },
+    ghost few: { length names ≤ MOST_ACCOUNTS },
     ghost flagged: { vec_len seeds ≤ length names },
 }
 
@@ -40,7 +38,7 @@ impl SiteDraft {
     ghost use Rattle.trust_types.specs.Kept.{accounts};
     ghost use Rattle.trust_types.specs.NameLists.{number_of};
     ghost use Rattle.text_lines.specs.Reading.{Reads};
-    ghost use Rattle.site_lines.specs.Site.{account_line, seed_line, cert_line, form, site_line};
+    ghost use Rattle.site_lines.specs.Site.{account_line, seed_line, cert_line, given_cert, pair_in, form, site_line};
     ghost use Rattle.site_lines.specs.Drafts.{IsSiteDraft, Adds};
 
     /// No line was read yet. It takes no memory.
@@ -84,65 +82,45 @@ impl SiteDraft {
     fn form(&mut self, words: &mut Words) -> Result<(), LineFault>
         ensures { (k : List Record) → IsSiteDraft self.old k → Adds k result self.new (form k words.old) }
     {
-        let Some(word) = words.next_word() else {
-            return Err(LineFault::Kind(TextKind::BadLine));
-        };
-        let Some(first) = words.next_word() else {
-            return Err(LineFault::Kind(TextKind::BadLine));
-        };
-        let Some(second) = words.next_word() else {
-            if is_same(word, b"account") {
-                return self.account(first);
-            }
-            if is_same(word, b"seed") {
-                return self.seed(first);
-            }
-            return Err(LineFault::Kind(TextKind::BadLine));
-        };
-        let Some(third) = words.next_word() else {
-            return Err(LineFault::Kind(TextKind::BadLine));
-        };
-        if let Some(_) = words.next_word() {
-            return Err(LineFault::Kind(TextKind::BadLine));
+        let keyword = words.first()?;
+        if is_same(keyword, b"account") {
+            return self.account(words);
         }
-        if is_same(word, b"cert") {
-            self.settle()?;
-            return self.cert(first, second, third);
+        if is_same(keyword, b"seed") {
+            return self.seed(words);
+        }
+        if is_same(keyword, b"cert") {
+            return self.cert(words);
         }
         Err(LineFault::Kind(TextKind::BadLine))
     }
 
-    /// Reads `account NAME`.
-    fn account(&mut self, word: &[u8]) -> Result<(), LineFault>
-        ensures { (k : List Record) → IsSiteDraft self.old k → Adds k result self.new (account_line k word.now) }
+    /// Reads what is behind `account`.
+    fn account(&mut self, words: &mut Words) -> Result<(), LineFault>
+        ensures { (k : List Record) → IsSiteDraft self.old k → Adds k result self.new (account_line k words.old) }
     {
-        let Some(name) = Name::read(word) else {
-            return Err(LineFault::Kind(TextKind::BadName));
-        };
-        if self.names.find(&name).is_some() {
-            return Err(LineFault::Kind(TextKind::Twice));
-        }
-        if self.names.count() >= MOST_ACCOUNTS {
-            return Err(LineFault::Kind(TextKind::TooMany));
-        }
+        let name = new_name(&self.names, words)?;
         self.names.push(name)?;
         self.seeds.push(false)?;
         Ok(())
     }
 
-    /// Reads `seed NAME`.
-    fn seed(&mut self, word: &[u8]) -> Result<(), LineFault>
-        ensures { (k : List Record) → IsSiteDraft self.old k → Adds k result self.new (seed_line k word.now) }
+    /// Reads what is behind `seed`.
+    fn seed(&mut self, words: &mut Words) -> Result<(), LineFault>
+        ensures { (k : List Record) → IsSiteDraft self.old k → Adds k result self.new (seed_line k words.old) }
     {
-        let Some(name) = Name::read(word) else {
-            return Err(LineFault::Kind(TextKind::BadName));
-        };
-        let Some(account) = self.names.find(&name) else {
-            return Err(LineFault::Kind(TextKind::Unknown));
-        };
-        if mark(&mut self.seeds, account) {
-            return Err(LineFault::Kind(TextKind::Twice));
-        }
+        let account = known_account(&self.names, words)?;
+        fault_if(mark(&mut self.seeds, account), TextKind::Twice)?;
+        Ok(())
+    }
+
+    /// Reads what is behind `cert`.
+    fn cert(&mut self, words: &mut Words) -> Result<(), LineFault>
+        ensures { (k : List Record) → IsSiteDraft self.old k → Adds k result self.new (cert_line k words.old) }
+    {
+        self.settle()?;
+        let cert = self.given_cert(words)?;
+        fault_unless(self.certs.push(cert)?, TextKind::TooMany)?;
         Ok(())
     }
 
@@ -154,32 +132,28 @@ impl SiteDraft {
         Ok(())
     }
 
-    /// Reads `cert NAME NAME LEVEL`.
-    fn cert(&mut self, giver: &[u8], taker: &[u8], word: &[u8]) -> Result<(), LineFault>
-        ensures { (k : List Record) → IsSiteDraft self.old k → Adds k result self.new (cert_line k giver.now taker.now word.now) }
+    /// The certificate behind `cert`.
+    fn given_cert(&mut self, words: &mut Words) -> Result<Cert, TextKind>
+        ensures draft { (k : List Record) → IsSiteDraft self.old k → IsSiteDraft self.new k }
+        ensures cert { (k : List Record) → IsSiteDraft self.old k → result ≡ given_cert (accounts k) words.old }
     {
-        let Some(level) = Level::of_name(word) else {
-            return Err(LineFault::Kind(TextKind::BadLevel));
-        };
-        let Some(giver) = Name::read(giver) else {
-            return Err(LineFault::Kind(TextKind::BadName));
-        };
-        let Some(taker) = Name::read(taker) else {
-            return Err(LineFault::Kind(TextKind::BadName));
-        };
-        let Some(from) = self.find_giver(&giver) else {
-            return Err(LineFault::Kind(TextKind::Unknown));
-        };
-        let Some(to) = self.names.find(&taker) else {
-            return Err(LineFault::Kind(TextKind::Unknown));
-        };
-        if from == to {
-            return Err(LineFault::Kind(TextKind::SelfCert));
-        }
-        if !self.certs.push(Cert { from, to, level })? {
-            return Err(LineFault::Kind(TextKind::TooMany));
-        }
-        Ok(())
+        let (giver, taker, word) = words.three()?;
+        let level = Level::of_name(word).ok_or(TextKind::BadLevel)?;
+        let (from, to) = self.pair(giver, taker)?;
+        Ok(Cert { from, to, level })
+    }
+
+    /// Two accounts by their names.
+    fn pair(&mut self, giver: &[u8], taker: &[u8]) -> Result<(AccountNo, AccountNo), TextKind>
+        ensures draft { (k : List Record) → IsSiteDraft self.old k → IsSiteDraft self.new k }
+        ensures pair { (k : List Record) → IsSiteDraft self.old k → result ≡ pair_in (accounts k) giver.now taker.now }
+    {
+        let giver = name_in(giver)?;
+        let taker = name_in(taker)?;
+        let from = self.find_giver(&giver).ok_or(TextKind::Unknown)?;
+        let to = self.names.find(&taker).ok_or(TextKind::Unknown)?;
+        fault_if(from == to, TextKind::SelfCert)?;
+        Ok((from, to))
     }
 
     /// The account of that name, where there is one. The last giver's needs no look-up.

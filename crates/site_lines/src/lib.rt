@@ -1,9 +1,9 @@
 //! The lines of a site: what each means after those before, and a site under construction.
 #![tactic(auto)]
 
+mod accounts;
 mod drafts;
 mod entries;
-mod forms;
 mod parts;
 mod seeds;
 mod tables;
@@ -11,6 +11,3 @@ mod tables;
 pub use drafts::SiteDraft;
 pub use parts::SiteParts;
 pub use tables::read_table;
-
-#[cfg(test)]
-mod tests;

@@ -6,14 +6,15 @@ ghost use Rattle.site_lines.specs.Drafts.{IsSiteDraft, ArePartsOf};
 
 use crate::drafts::SiteDraft;
 use crate::seeds::marked;
+use name_index::NameIndex;
 use std::alloc::Global;
-use trust_types::{AccountNo, Cert, Name, NoMemory};
+use trust_types::{AccountNo, Cert, NoMemory};
 
 /// The parts of a site, of which a graph can be made.
 #[derive(Drop)]
 pub struct SiteParts {
-    /// The accounts' names in order.
-    pub names: Vec<Name>,
+    /// The accounts' names in order, sorted for look-ups.
+    pub names: NameIndex,
     /// The seeds, in rising order.
     pub seeds: Vec<AccountNo>,
     /// The certificates that stand, in rising order of giver and taker.
@@ -21,7 +22,7 @@ pub struct SiteParts {
 }
 
 impl SiteDraft {
-    /// The parts of the site. The certificates are sorted, and names and seeds gone over once.
+    /// The parts of the site. Names and certificates are sorted, and seeds gone over once.
     ///
     /// # Errors
     /// [`NoMemory`] where there isn't enough for them.
@@ -29,17 +30,16 @@ impl SiteDraft {
         ensures { (k : List Record) → IsSiteDraft self k → IfOk result (λ parts. ArePartsOf k parts) }
     {
         let SiteDraft {
-            names,
+            mut names,
             seeds,
             certs,
             ..
         } = self;
-        let seeds = marked(alloc, &seeds)?;
-        let certs = certs.into_standing()?;
+        names.settle()?;
         Ok(SiteParts {
-            names: names.into_names(),
-            seeds,
-            certs,
+            names,
+            seeds: marked(alloc, &seeds)?,
+            certs: certs.into_standing()?,
         })
     }
 }

@@ -4,8 +4,7 @@ ghost use Rattle.std.specs.Prelude.{◌≡◌};
 ghost use Rattle.site_lines.specs.Site.{caps_line, caps_form, table_in};
 
 use crate::entries::Entries;
-use crate::forms::is_same;
-use text_lines::{TextKind, Words, is_line};
+use text_lines::{TextKind, Words, is_line, is_same};
 use trust_types::Caps;
 
 /// The table of a line `caps default`, or `caps` and its entries.

@@ -1,14 +1,3 @@
 mod Parting
+mod Counting
 mod Composing
-mod Spelling
-mod Wording
-mod Recorded
-mod Placed
-mod SiteSteps
-mod ClaimSteps
-mod CapsLine
-mod ReadingBack
-mod Written
-mod GraphLists
-mod Texted
-mod Reaching

@@ -1,9 +1,12 @@
--- The lines of a text up to its `level` line, and from it on.
-use Rattle.std.proofs.Common.{ℕ, suc, ◌≡◌, ◌+◌, List, [], ◌∷◌, true, false, length, take, drop, refl, arith}
-use Rattle.std.specs.List.{position_or_len}
+-- The lines of a text up to the first that passes a test, and from it on.
+use Rattle.std.proofs.Common.{ℕ, suc, ◌≡◌, ◌+◌, Bool, List, [], ◌∷◌, true, false, Option, Some, None, length, take, drop, refl, ap, ◌∙◌, arith}
+use Rattle.std.specs.List.{before_first, position_or_len}
 use native.Mathlib.Numerals.{unary_clauses}
-use Rattle.claim_lines.specs.Claim.{is_level_line}
-use Rattle.site_text.specs.Site.{site_part, claim_part}
+use Rattle.site_text.specs.inner.Parts.{claim_from}
+
+-- The lines from that one on.
+abbrev pub from_first : (List ℕ → Bool) → List (List ℕ) → List (List ℕ)
+from_first p ls = drop (position_or_len p ls) ls
 
 take-next : {X : Type 0} (m n : ℕ) (x : X) (xs : List X) → m ≡ suc n → take m (x ∷ xs) ≡ x ∷ take n xs
 take-next m n x xs e = rw e refl
@@ -11,17 +14,33 @@ take-next m n x xs e = rw e refl
 drop-next : {X : Type 0} (m n : ℕ) (x : X) (xs : List X) → m ≡ suc n → drop m (x ∷ xs) ≡ drop n xs
 drop-next m n x xs e = rw e refl
 
-pub site_part-more : (line : List ℕ) (others : List (List ℕ)) → is_level_line line ≡ false → site_part (line ∷ others) ≡ line ∷ site_part others
-site_part-more line others e = rw e (take-next (1 + position_or_len is_level_line others) (position_or_len is_level_line others) line others (omega arith))
+pub before-more : (p : List ℕ → Bool) (line : List ℕ) (others : List (List ℕ)) → p line ≡ false → before_first p (line ∷ others) ≡ line ∷ before_first p others
+before-more p line others e = rw e (take-next (1 + position_or_len p others) (position_or_len p others) line others (omega arith))
 
-pub site_part-level : (line : List ℕ) (others : List (List ℕ)) → is_level_line line ≡ true → site_part (line ∷ others) ≡ []
-site_part-level line others e = rw e refl
+pub before-found : (p : List ℕ → Bool) (line : List ℕ) (others : List (List ℕ)) → p line ≡ true → before_first p (line ∷ others) ≡ []
+before-found p line others e = rw e refl
 
-pub claim_part-more : (line : List ℕ) (others : List (List ℕ)) → is_level_line line ≡ false → claim_part (line ∷ others) ≡ claim_part others
-claim_part-more line others e = rw e (drop-next (1 + position_or_len is_level_line others) (position_or_len is_level_line others) line others (omega arith))
+pub from-more : (p : List ℕ → Bool) (line : List ℕ) (others : List (List ℕ)) → p line ≡ false → from_first p (line ∷ others) ≡ from_first p others
+from-more p line others e = rw e (drop-next (1 + position_or_len p others) (position_or_len p others) line others (omega arith))
 
-pub claim_part-level : (line : List ℕ) (others : List (List ℕ)) → is_level_line line ≡ true → claim_part (line ∷ others) ≡ line ∷ others
-claim_part-level line others e = rw e refl
+pub from-found : (p : List ℕ → Bool) (line : List ℕ) (others : List (List ℕ)) → p line ≡ true → from_first p (line ∷ others) ≡ line ∷ others
+from-found p line others e = rw e refl
+
+-- Where none passes, all lines come before.
+abbrev pub never : List ℕ → Bool
+never line = false
+
+pub before-never : (ls : List (List ℕ)) → before_first never ls ≡ ls
+before-never [] = refl
+before-never (line ∷ others) = before-more never line others refl ∙ ap (λ ls. line ∷ ls) (before-never others)
+
+pub from-never : (ls : List (List ℕ)) → from_first never ls ≡ []
+from-never [] = refl
+from-never (line ∷ others) = from-more never line others refl ∙ from-never others
+
+pub no_claim : (first : Option (List ℕ)) (others : List (List ℕ)) → claim_from first others ≡ [] → first ≡ None
+no_claim None others e = refl
+no_claim (Some line) others e = cc
 
 pub length-first : {X : Type 0} (xs : List X) (y : X) (ys : List X) → xs ≡ y ∷ ys → length xs ≡ length ys + 1
 length-first xs y ys e = rw e (simp unary_clauses refl)

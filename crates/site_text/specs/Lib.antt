@@ -1,6 +1,4 @@
 pub mod Site
 pub mod View
-pub mod Canonical
-pub mod Writing
 pub mod Faults
-pub mod Parts
+pub mod inner

@@ -1,5 +1,5 @@
 -- What a site text and a proof text stand for; and of every other text the first line that has a fault.
-use Rattle.std.specs.Prelude.{ℕ, ◌+◌, not, List, [], ◌∷◌, Result, Ok, Err, length, drop}
+use Rattle.std.specs.Prelude.{ℕ, ◌+◌, List, [], ◌∷◌, Result, Ok, Err, length, drop}
 use Rattle.std.specs.List.{before_first, position_or_len}
 use Rattle.trust_types.specs.declared.levels.Level.{Level}
 use Rattle.trust_types.specs.declared.records.Record.{Record}
@@ -9,7 +9,7 @@ use Rattle.text_lines.specs.declared.faults.TextKind.TheVariants.{BadLine, Missi
 use Rattle.text_lines.specs.declared.faults.TextFault.{TextFault}
 use Rattle.text_lines.specs.Words.{lines}
 use Rattle.text_lines.specs.Reading.{reading}
-use Rattle.text_lines.specs.Steps.{◌>>=◌, none_if, at_line}
+use Rattle.text_lines.specs.Steps.{◌>>=◌, fault_unless, at_line}
 use Rattle.site_lines.specs.Site.{caps_line, site_line}
 use Rattle.claim_lines.specs.Claim.{Claim, nothing, is_level_line, level_line, claim_line, has_root}
 
@@ -27,12 +27,20 @@ pub record ProofText : Type 0 where
 abbrev pub fault : ℕ → TextKind → TextFault
 fault number kind = record { line = number; kind = kind }
 
--- The site of these lines: the table first, then the site's lines, of which the first has number 2.
+-- The table of the first line.
+abbrev pub table_of : List (List ℕ) → Result (List ℕ) TextFault
+table_of [] = Err (fault 1 BadLine)
+table_of (first ∷ others) = at_line 1 (caps_line first)
+
+-- The lines behind the first, of which the next has number 2.
+abbrev pub behind_first : List (List ℕ) → List (List ℕ)
+behind_first lines = drop 1 lines
+
+-- The site of these lines: the table, and then the site's lines.
 unfoldable pub site_of : List (List ℕ) → Result SiteText TextFault
-site_of [] = Err (fault 1 BadLine)
-site_of (first ∷ others) = do
-  table ← at_line 1 (caps_line first)
-  records ← reading site_line 2 [] others
+site_of lines = do
+  table ← table_of lines
+  records ← reading site_line 2 [] (behind_first lines)
   Ok (record { table = table; records = records })
 
 -- The site of a text's bytes.
@@ -53,15 +61,16 @@ claim_of names number [] = Err (fault number MissingLevel)
 claim_of names number (first ∷ others) = do
   level ← at_line number (level_line first)
   claim ← reading (claim_line names) (number + 1) nothing others
-  _ ← at_line (number + 1 + length others) (none_if (not (has_root claim)) MissingRoot)
+  _ ← at_line (number + 1 + length others) (fault_unless (has_root claim) MissingRoot)
   Ok (level, claim)
 
--- The proof of these lines: a site, and behind it a claim.
+-- The proof of these lines: the table, the site's lines, and behind them a claim.
 unfoldable pub proof_of : List (List ℕ) → Result ProofText TextFault
 proof_of lines = do
-  site ← site_of (site_part lines)
-  claimed ← claim_of (accounts site.records) (length (site_part lines) + 1) (claim_part lines)
-  Ok (record { site = site; level = claimed.0; claim = claimed.1 })
+  table ← table_of lines
+  records ← reading site_line 2 [] (site_part (behind_first lines))
+  claimed ← claim_of (accounts records) (length (site_part (behind_first lines)) + 2) (claim_part (behind_first lines))
+  Ok (record { site = record { table = table; records = records }; level = claimed.0; claim = claimed.1 })
 
 -- The proof of a text's bytes.
 abbrev pub proof : List ℕ → Result ProofText TextFault

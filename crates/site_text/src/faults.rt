@@ -1,7 +1,7 @@
 ghost use Rattle.std.specs.Prelude.{◌≡◌};
 ghost use Rattle.text_lines.specs.Reading.{fault_at};
 ghost use Rattle.site_text.specs.Faults.{fault_of};
-ghost use Rattle.site_text.specs.declared.faults.SiteFault.TheVariants.{NoMemory as NoMemoryLeft};
+ghost use Rattle.site_text.specs.declared.faults.SiteFault.TheVariants.{NoMemory as NoMemoryLeft, Text as TextOf};
 
 use text_lines::{LineFault, TextFault};
 use thiserror::Error;
@@ -27,6 +27,14 @@ impl SiteFault {
             LineFault::Kind(kind) => SiteFault::Text(TextFault { line, kind }),
             LineFault::NoMemory => SiteFault::NoMemory,
         }
+    }
+}
+
+impl From<TextFault> for SiteFault {
+    ghost from_gives = { λ fault e. e ≡ TextOf fault };
+
+    fn from(fault: TextFault) -> SiteFault {
+        SiteFault::Text(fault)
     }
 }
 

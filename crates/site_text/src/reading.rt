@@ -1,19 +1,20 @@
 //! Texts of sites and of proofs, read.
 
-ghost use Rattle.std.specs.Prelude.{◌≡◌, ◌+◌, ◌≤◌, ℕ, List, [], ◌∷◌, Ok, Err, Option, Some, IfOk, IfErr, OnOk, IfSome, IsTrue, length, option_map};
+ghost use Rattle.std.specs.Prelude.{◌≡◌, ◌+◌, ◌≤◌, ℕ, List, [], IfOk, OnOk, IsTrue, drop, length, option_map};
+ghost use Rattle.std.specs.List.{before_first, position_or_len};
 ghost use Rattle.trust_types.specs.Levels.{IsGrade};
 ghost use Rattle.text_lines.specs.Words.{lines};
 ghost use Rattle.text_lines.specs.Reading.{reading, ReadsAll};
-ghost use Rattle.site_lines.specs.Site.{site_line, caps_line};
+ghost use Rattle.site_lines.specs.Site.{site_line};
 ghost use Rattle.claim_lines.specs.Claim.{Claim, nothing, claim_line, has_root};
 ghost use Rattle.claim_lines.specs.Drafts.{IsClaimDraft, ArePartsOf as AreClaimed, ArePartsAmong};
 ghost use Rattle.site_lines.specs.Drafts.{ArePartsOf};
 ghost use Rattle.trust_types.specs.declared.records.Record.{Record};
 ghost use Rattle.trust_types.specs.Kept.{accounts};
-ghost use Rattle.site_text.specs.Site.{site, proof, site_part, claim_part, claim_of};
+ghost use Rattle.site_text.specs.Site.{site, proof, table_of, behind_first, claim_of};
 ghost use Rattle.site_text.specs.View.{IsFrozenOf, IsProofOf};
 ghost use Rattle.site_text.specs.Faults.{fault_of};
-ghost use Rattle.site_text.specs.Parts.{IsPart, IsClaimed, claim_from, claim_number, table_of};
+ghost use Rattle.site_text.specs.inner.Parts.{IsPart, IsClaimed, claim_from, claim_number, ends_site};
 
 use crate::faults::SiteFault;
 use claim_lines::{ClaimDraft, ClaimParts, is_level_line, read_level};
@@ -22,9 +23,9 @@ use frozen::Frozen;
 use site_lines::{SiteDraft, SiteParts, read_table};
 use std::alloc::Global;
 use std::sync::Arc;
-use text_lines::{Lines, TextFault, TextKind};
+use text_lines::{Lines, TextFault, TextKind, at_line, fault_unless};
 use name_index::NameIndex;
-use trust_types::{Caps, CertList, Level, NoMemory};
+use trust_types::{Caps, CertList, Level, MOST_ACCOUNTS, NoMemory};
 
 /// The lines of a site, read, and the `level` line that ended them, where one did.
 #[derive(Drop)]
@@ -41,34 +42,36 @@ struct Claimed {
 }
 
 /// Reads a text's first line, which is its table.
-fn read_first(text: &mut Lines) -> Result<Caps, SiteFault>
-    requires start { text.old.number ≡ 0 }
-    ensures read { IfOk result (λ caps. (first : List ℕ) × (lines text.old.bytes ≡ first ∷ lines text.new.bytes) × (caps_line first ≡ Ok caps)) }
-    ensures refused { IfErr result (λ refusal. IfSome (fault_of refusal) (λ fault. table_of (lines text.old.bytes) ≡ Err fault)) }
-    ensures number { OnOk result (text.new.number ≡ 1) }
+fn read_first(text: &mut Lines) -> Result<Caps, TextFault>
+    ensures table { result ≡ table_of (lines text.old.bytes) }
+    ensures left { OnOk result (lines text.new.bytes ≡ behind_first (lines text.old.bytes)) }
+    ensures number { OnOk result (text.new.number ≡ text.old.number + 1) }
 {
-    let Some(line) = text.next_line() else {
-        return Err(SiteFault::Text(TextFault {
-            line: 1,
-            kind: TextKind::BadLine,
-        }));
-    };
-    match read_table(line) {
-        Ok(caps) => Ok(caps),
-        Err(kind) => Err(SiteFault::Text(TextFault { line: 1, kind })),
-    }
+    let line = at_line(1, text.next_line().ok_or(TextKind::BadLine))?;
+    at_line(1, read_table(line))
 }
 
-/// Reads the lines of a site behind the first, up to the first `level` line.
-fn read_site_part<'a>(alloc: Global, text: &mut Lines<'a>) -> Result<SitePart<'a>, SiteFault>
+/// Whether the line ends the site, in a proof text or in one of a site.
+fn ends_site(in_proof: bool, line: &[u8]) -> bool
+    ensures { result ≡ ends_site in_proof line.now }
+{
+    in_proof && is_level_line(line)
+}
+
+/// Reads the lines of a site behind the first: in a proof text up to the first `level` line, and else all.
+fn read_site_part<'a>(
+    alloc: Global,
+    text: &mut Lines<'a>,
+    in_proof: bool,
+) -> Result<SitePart<'a>, SiteFault>
     requires first { text.old.number ≡ 1 }
-    ensures read { ReadsAll IsPart fault_of result (reading site_line 2 [] (site_part (lines text.old.bytes))) }
-    ensures left { IfOk result (λ part. claim_part (lines text.old.bytes) ≡ claim_from (option_map (λ line. line.now) part.level_line) (lines text.new.bytes)) }
-    ensures number { IfOk result (λ part. claim_number (option_map (λ line. line.now) part.level_line) text.new.number ≡ length (site_part (lines text.old.bytes)) + 2) }
+    ensures read { ReadsAll IsPart fault_of result (reading site_line 2 [] (before_first (ends_site in_proof) (lines text.old.bytes))) }
+    ensures left { IfOk result (λ part. drop (position_or_len (ends_site in_proof) (lines text.old.bytes)) (lines text.old.bytes) ≡ claim_from (option_map (λ line. line.now) part.level_line) (lines text.new.bytes)) }
+    ensures number { IfOk result (λ part. claim_number (option_map (λ line. line.now) part.level_line) text.new.number ≡ length (before_first (ends_site in_proof) (lines text.old.bytes)) + 2) }
 {
     let mut draft = SiteDraft::new(alloc);
     while let Some(line) = text.next_line() {
-        if is_level_line(line) {
+        if ends_site(in_proof, line) {
             return Ok(SitePart {
                 draft,
                 level_line: Some(line),
@@ -91,7 +94,7 @@ fn read_claim_lines(
     text: &mut Lines,
     names: &NameIndex,
 ) -> Result<ClaimDraft, SiteFault>
-    requires few { length names.now ≤ 100000 }
+    requires few { length names.now ≤ MOST_ACCOUNTS }
     ensures read { ReadsAll (IsClaimDraft (length names.now)) fault_of result (reading (claim_line names.now) (text.old.number + 1) nothing (lines text.old.bytes)) }
     ensures number { OnOk result (text.new.number ≡ text.old.number + length (lines text.old.bytes)) }
 {
@@ -105,34 +108,31 @@ fn read_claim_lines(
     Ok(draft)
 }
 
-/// Reads what is claimed of a site: the `level` line, which was the last one read, and those behind it.
+/// Reads what is claimed of a site: the `level` line, which was the last one read where there is one, and those behind it.
 fn read_claim(
     alloc: Global,
     text: &mut Lines,
-    level_line: &[u8],
+    level_line: Option<&[u8]>,
     names: &NameIndex,
 ) -> Result<Claimed, SiteFault>
-    requires few { length names.now ≤ 100000 }
-    ensures read { ReadsAll (IsClaimed (length names.now)) fault_of result (claim_of names.now text.old.number (level_line.now ∷ lines text.old.bytes)) }
+    requires few { length names.now ≤ MOST_ACCOUNTS }
+    ensures read { let first = option_map (λ line. line.now) level_line.entry in
+        ReadsAll (IsClaimed (length names.now)) fault_of result (claim_of names.now (claim_number first text.old.number) (claim_from first (lines text.old.bytes))) }
     ensures grade { IfOk result (λ claimed. IsGrade claimed.level) }
     ensures root { IfOk result (λ claimed. (c : Claim) → IsClaimDraft (length names.now) claimed.draft c → IsTrue (has_root c)) }
 {
-    let level = match read_level(level_line) {
-        Ok(level) => level,
-        Err(kind) => {
-            return Err(SiteFault::Text(TextFault {
-                line: text.number(),
-                kind,
-            }));
-        }
-    };
-    let draft = read_claim_lines(alloc, text, names)?;
-    if !draft.has_root() {
+    let Some(level_line) = level_line else {
         return Err(SiteFault::Text(TextFault {
             line: text.number() + 1,
-            kind: TextKind::MissingRoot,
+            kind: TextKind::MissingLevel,
         }));
-    }
+    };
+    let level = at_line(text.number(), read_level(level_line))?;
+    let draft = read_claim_lines(alloc, text, names)?;
+    at_line(
+        text.number() + 1,
+        fault_unless(draft.has_root(), TextKind::MissingRoot),
+    )?;
     Ok(Claimed { level, draft })
 }
 
@@ -149,10 +149,11 @@ fn proof_of(
     ensures { (k : List Record) (c : Claim) → ArePartsOf k site → AreClaimed c claim →
         IfOk result (λ p. IsProofOf (record { site = record { table = caps; records = k }; level = level; claim = c }) p) }
 {
-    let graph = CertList::of(alloc, site.names.len() as u32, site.seeds, site.certs)?;
+    let names = site.names.into_names();
+    let graph = CertList::of(alloc, names.len() as u32, site.seeds, site.certs)?;
     Ok(Proof {
         caps,
-        names: site.names,
+        names,
         graph,
         level,
         flow: claim.flow,
@@ -173,16 +174,10 @@ pub fn read_site(alloc: Global, bytes: &[u8]) -> Result<Arc<Frozen>, SiteFault>
 {
     let mut text = Lines::of(bytes);
     let caps = read_first(&mut text)?;
-    let part = read_site_part(alloc, &mut text)?;
-    if let Some(_) = part.level_line {
-        return Err(SiteFault::Text(TextFault {
-            line: text.number(),
-            kind: TextKind::BadLine,
-        }));
-    }
+    let part = read_site_part(alloc, &mut text, false)?;
     let revision = text.number() - 1;
     let site = part.draft.finish(alloc)?;
-    Ok(Frozen::of(
+    Ok(Frozen::of_index(
         alloc,
         revision as u32,
         caps,
@@ -203,14 +198,8 @@ pub fn read_proof(alloc: Global, bytes: &[u8]) -> Result<Proof, SiteFault>
 {
     let mut text = Lines::of(bytes);
     let caps = read_first(&mut text)?;
-    let part = read_site_part(alloc, &mut text)?;
-    let Some(level_line) = part.level_line else {
-        return Err(SiteFault::Text(TextFault {
-            line: text.number() + 1,
-            kind: TextKind::MissingLevel,
-        }));
-    };
-    let claimed = read_claim(alloc, &mut text, level_line, part.draft.names())?;
+    let part = read_site_part(alloc, &mut text, true)?;
+    let claimed = read_claim(alloc, &mut text, part.level_line, part.draft.names())?;
     let site = part.draft.finish(alloc)?;
     let claim = claimed.draft.finish(alloc)?;
     Ok(proof_of(alloc, caps, site, claimed.level, claim)?)

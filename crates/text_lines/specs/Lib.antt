@@ -4,3 +4,5 @@ pub mod Numbers
 pub mod Faults
 pub mod Reading
 pub mod Steps
+pub mod Places
+pub mod inner

@@ -1,7 +1,7 @@
 //! Why a text is none of its form.
 
 ghost use Rattle.std.specs.Prelude.{◌≡◌, IfOk};
-ghost use Rattle.text_lines.specs.declared.faults.LineFault.TheVariants.{NoMemory as NoMemoryLeft};
+ghost use Rattle.text_lines.specs.declared.faults.LineFault.TheVariants.{Kind as KindOf, NoMemory as NoMemoryLeft};
 ghost use Rattle.text_lines.specs.Faults.{kind_name, kind_of_table, fault_line};
 
 use std::alloc::{AllocError, AllocFailed, Global};
@@ -117,6 +117,14 @@ pub enum LineFault {
     Kind(TextKind),
     /// Memory ran out.
     NoMemory,
+}
+
+impl From<TextKind> for LineFault {
+    ghost from_gives = { λ kind e. e ≡ KindOf kind };
+
+    fn from(kind: TextKind) -> LineFault {
+        LineFault::Kind(kind)
+    }
 }
 
 impl From<AllocError> for LineFault {

@@ -5,12 +5,13 @@ mod ends;
 mod faults;
 mod lines;
 mod numbers;
+mod places;
+mod steps;
 mod words;
 
 pub use faults::{LineFault, TextFault, TextKind};
 pub use lines::Lines;
 pub use numbers::number;
+pub use places::{is_same, name_in};
+pub use steps::{at_line, fault_if, fault_unless};
 pub use words::{Words, is_line};
-
-#[cfg(test)]
-mod tests;

@@ -1,5 +1,5 @@
 use Rattle.std.proofs.Common.{take, length, ◌≤◌}
-use Rattle.cert_log.specs.Log.{AreLevels}
+use Rattle.cert_log.specs.inner.Levels.{AreLevels}
 use Rattle.cert_log.proofs.levels.levels_of.Given as goal
 
 abbrev pub invariant-loop-cert : goal.invariant-loop-cert

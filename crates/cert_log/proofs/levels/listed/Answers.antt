@@ -1,7 +1,7 @@
 use Rattle.std.proofs.Common.{rules, tests}
 use Rattle.std.proofs.lemmas.Iterator.{YieldsList-from_map, items_from_collect}
 use Rattle.std.proofs.lemmas.Iterator.Consumers.{YieldsList-at, YieldsList-from_rest}
-use Rattle.cert_log.specs.Log.{cert_at}
+use Rattle.cert_log.specs.inner.Levels.{cert_at}
 use Rattle.cert_log.proofs.levels.listed.Goals as goal
 
 pub returns-clause-all : goal.returns-clause-all

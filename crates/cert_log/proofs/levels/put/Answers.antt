@@ -1,7 +1,7 @@
 use Rattle.std.proofs.Common.{◌≡◌, sym, ◌∙◌, refl, true, ◌⊎◌, inl, inr, ◌<◌, arith, length, is_some, ◌∷◌, ◌++◌, []}
 use Rattle.trust_types.specs.declared.graphs.Cert.{Cert}
 use Rattle.pair_map.specs.Pairs.{value_at}
-use Rattle.cert_log.specs.Log.{AreLevels}
+use Rattle.cert_log.specs.inner.Levels.{AreLevels}
 use Rattle.cert_log.proofs.Counting.{few_fit}
 use Rattle.cert_log.proofs.Listing.{tested}
 use Rattle.cert_log.proofs.Mapping.{removed, inserted, full}

@@ -1,5 +1,5 @@
 use Rattle.std.proofs.Common.{◌≡◌, ◌≤◌, ◌++◌, drop, take}
-use Rattle.cert_log.specs.Standing.{standing_list}
+use Rattle.cert_log.specs.inner.Order.{standing_list}
 use Rattle.cert_log.proofs.sorted.move_to_front.Given as goal
 
 abbrev pub invariant-loop-place : goal.invariant-loop-place

@@ -1,7 +1,7 @@
 use Rattle.std.proofs.Common.{rules}
 use Rattle.std.proofs.lemmas.Iterator.{items_from_collect, YieldsList-from_map}
 use Rattle.std.proofs.lemmas.Iterator.Consumers.{YieldsList-from_rest, YieldsList-at}
-use Rattle.claim_lines.specs.Flows.{line_of}
+use Rattle.claim_lines.specs.inner.Flows.{line_of}
 use Rattle.claim_lines.proofs.flows.lines_of.Goals as goal
 
 pub returns-clause-all : goal.returns-clause-all

@@ -4,9 +4,9 @@ use Rattle.site_lines.proofs.Entering.{table_in-more, table_in-numbers, judged-f
 use Rattle.site_lines.proofs.tables.table_in.Goals as goal
 
 pub returns-in-Some-next_word : goal.returns-in-Some-next_word
-returns-in-Some-next_word c = sym (table_in-more _ _ _ _ _ c.in-Some.ensures c.in-Some-next_word.ensures (sym c.is_same.ensures ∙ c.if-is_same.true))
+returns-in-Some-next_word c = sym (table_in-more _ _ _ _ _ c.in-Some.ensures.word c.in-Some-next_word.ensures.word (sym c.is_same.ensures ∙ c.if-is_same.true))
 
 pub returns-in-Some-read : goal.returns-in-Some-read
 returns-in-Some-read c =
     let all = c.in-Some-read.ensures in
-    c.table.ensures ∙ ap judged all.2 ∙ judged-first all.0 ∙ sym (table_in-numbers _ _ _ _ c.in-Some.ensures (sym c.is_same.ensures ∙ c.if-is_same.false) all.1)
+    c.table.ensures ∙ ap judged all.2 ∙ judged-first all.0 ∙ sym (table_in-numbers _ _ _ _ c.in-Some.ensures.word (sym c.is_same.ensures ∙ c.if-is_same.false) all.1)

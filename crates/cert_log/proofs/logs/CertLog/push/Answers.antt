@@ -2,7 +2,7 @@ use Rattle.std.proofs.Common.{◌≤◌, ◌<◌, ◌∷◌, ◌++◌, [], ◌�
 use Rattle.std.proofs.lemmas.List.{length_push}
 use Rattle.trust_types.specs.declared.graphs.Cert.{Cert}
 use Rattle.cert_log.specs.declared.logs.Kept.{Kept}
-use Rattle.cert_log.specs.Log.{Keeps}
+use Rattle.cert_log.specs.inner.Levels.{Keeps}
 use Rattle.cert_log.proofs.Counting.{short_fits}
 use Rattle.cert_log.proofs.logs.CertLog.push.Goals as goal
 

@@ -1,38 +1,27 @@
-use Rattle.std.proofs.Common.{sym, ◌∙◌}
-use Rattle.claim_lines.proofs.Saying.{form-none, form-one, form-pass, form-full, form-two, form-three, form-four, form-five, form-flow}
+use Rattle.std.proofs.Common.{sym, ◌∙◌, length}
+use Rattle.text_lines.proofs.Stepping.{faulty}
+use Rattle.claim_lines.specs.Claim.{claim_form}
+use Rattle.claim_lines.specs.Drafts.{IsClaimDraft}
+use Rattle.claim_lines.proofs.Saying.{form-none, form-pass, form-full, form-flow, form-other}
 use Rattle.claim_lines.proofs.drafts.ClaimDraft.read_form.Goals as goal
 
-pub returns-in_default : goal.returns-in_default
-returns-in_default c = λ k is. form-none _ k _ c.in_default.ensures
-
-pub returns-in_default-next_word : goal.returns-in_default-next_word
-returns-in_default-next_word c = λ k is. form-one _ k _ _ _ c.in-Some.ensures c.in_default-next_word.ensures
+pub returns-in_err-keyword : goal.returns-in_err-keyword
+returns-in_err-keyword c = λ k is.
+    let none = c.in_err-keyword.ensures in
+    faulty (IsClaimDraft (length c.args.names.now)) _ c.from_residual.result (claim_form c.args.names.now k c.args.words.now) c.in_err-keyword.field-0.0 c.from_residual.ensures.1
+    (rw none.1 (form-none _ k _ none.0))
 
 pub returns-then-is_same : goal.returns-then-is_same
-returns-then-is_same c = λ k is.
-    rw (form-pass _ k _ _ _ _ _ c.in-Some.ensures c.in-Some-next_word.ensures c.in_default-next_word-2.ensures (sym c.is_same.ensures ∙ c.if-is_same.true)) (c.read_pass.ensures k is)
+returns-then-is_same c = λ k is. rw (form-pass _ k _ _ _ c.in_ok-keyword.ensures (sym c.is_same.ensures ∙ c.if-is_same.true)) (c.read_node.ensures k is)
 
 pub returns-then-is_same-2 : goal.returns-then-is_same-2
 returns-then-is_same-2 c = λ k is.
-    rw (form-full _ k _ _ _ _ _ c.in-Some.ensures c.in-Some-next_word.ensures c.in_default-next_word-2.ensures (sym c.is_same.ensures ∙ c.if-is_same.false) (sym c.is_same-in_default-next_word-2.ensures ∙ c.if-is_same-2.true))
-    (c.read_full.ensures k is)
-
-pub returns-in_default-next_word-2 : goal.returns-in_default-next_word-2
-returns-in_default-next_word-2 c = λ k is.
-    form-two _ k _ _ _ _ _ c.in-Some.ensures c.in-Some-next_word.ensures c.in_default-next_word-2.ensures (sym c.is_same.ensures ∙ c.if-is_same.false) (sym c.is_same-in_default-next_word-2.ensures ∙ c.if-is_same-2.false)
-
-pub returns-in_default-next_word-3 : goal.returns-in_default-next_word-3
-returns-in_default-next_word-3 c = λ k is. form-three _ k _ _ _ _ _ _ _ c.in-Some.ensures c.in-Some-next_word.ensures c.in-Some-next_word-2.ensures c.in_default-next_word-3.ensures
-
-pub returns-in-Some-next_word-4 : goal.returns-in-Some-next_word-4
-returns-in-Some-next_word-4 c = λ k is.
-    form-five _ k _ _ _ _ _ _ _ _ _ _ _ c.in-Some.ensures c.in-Some-next_word.ensures c.in-Some-next_word-2.ensures c.in-Some-next_word-3.ensures c.in-Some-next_word-4.ensures
+    rw (form-full _ k _ _ _ c.in_ok-keyword.ensures (sym c.is_same.ensures ∙ c.if-is_same.false) (sym c.is_same-2.ensures ∙ c.if-is_same-2.true)) (c.read_node-then-is_same-2.ensures k is)
 
 pub returns-then-is_same-3 : goal.returns-then-is_same-3
 returns-then-is_same-3 c = λ k is.
-    rw (form-flow _ k _ _ _ _ _ _ _ _ _ c.in-Some.ensures c.in-Some-next_word.ensures c.in-Some-next_word-2.ensures c.in-Some-next_word-3.ensures c.in_default-next_word-4.ensures (sym c.is_same-2.ensures ∙ c.if-is_same-3.true))
-    (c.read_flow.ensures k is)
+    rw (form-flow _ k _ _ _ c.in_ok-keyword.ensures (sym c.is_same.ensures ∙ c.if-is_same.false) (sym c.is_same-2.ensures ∙ c.if-is_same-2.false) (sym c.is_same-3.ensures ∙ c.if-is_same-3.true)) (c.read_flow.ensures k is)
 
 pub returns : goal.returns
 returns c = λ k is.
-    form-four _ k _ _ _ _ _ _ _ _ _ c.in-Some.ensures c.in-Some-next_word.ensures c.in-Some-next_word-2.ensures c.in-Some-next_word-3.ensures c.in_default-next_word-4.ensures (sym c.is_same-2.ensures ∙ c.if-is_same-3.false)
+    form-other _ k _ _ _ c.in_ok-keyword.ensures (sym c.is_same.ensures ∙ c.if-is_same.false) (sym c.is_same-2.ensures ∙ c.if-is_same-2.false) (sym c.is_same-3.ensures ∙ c.if-is_same-3.false)

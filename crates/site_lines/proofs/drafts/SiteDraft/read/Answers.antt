@@ -2,7 +2,7 @@ use Rattle.std.proofs.Common.{sym, ◌∙◌}
 use Rattle.text_lines.specs.Words.{words}
 use Rattle.site_lines.specs.Site.{form}
 use Rattle.site_lines.specs.Drafts.{Adds}
-use Rattle.site_lines.proofs.Forming.{reads-line, reads-words}
+use Rattle.site_lines.proofs.Saying.{reads-line, reads-words}
 use Rattle.site_lines.proofs.drafts.SiteDraft.read.Goals as goal
 use Rattle.site_lines.proofs.drafts.SiteDraft.read.Goals.{else-is_err-via-then-is_err+else-not-is_line, else-is_err-via-else-is_err}
 

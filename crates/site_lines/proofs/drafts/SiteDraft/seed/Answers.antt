@@ -1,33 +1,34 @@
-use Rattle.std.proofs.Common.{◌≡◌, sym, ◌∙◌, refl, ℕ, List, Some, bytes_eq}
-use Rattle.trust_types.specs.NameLists.{number_of}
-use Rattle.trust_types.specs.Kept.{accounts}
-use Rattle.site_lines.specs.Site.{seed}
-use Rattle.site_lines.proofs.Saying.{seed-bad_name, seed-unknown, seed-twice, seed-ok}
-use Rattle.site_lines.proofs.Drafting.{cond_none, cond_some_is, found, below, draft-seed}
+use Rattle.std.proofs.Common.{◌≡◌, ap, sym, ◌∙◌, ◌∷◌, ◌++◌, [], refl, Ok, length, subst, ◌<◌}
+use Rattle.text_lines.specs.declared.faults.TextKind.TheVariants.{Twice}
+use Rattle.text_lines.specs.Steps.{◌>>=◌, fault_if}
+use Rattle.text_lines.proofs.Stepping.{refused, passed}
+use Rattle.trust_types.specs.Kept.{accounts, is_seed}
+use Rattle.site_lines.specs.Site.{seed, known_account, seed_line}
+use Rattle.site_lines.specs.Drafts.{IsSiteDraft}
+use Rattle.site_lines.proofs.Drafting.{draft-seed}
 use Rattle.site_lines.proofs.drafts.SiteDraft.seed.Goals as goal
 
-pub returns-in_default : goal.returns-in_default
-returns-in_default c = λ k is. seed-bad_name k c.args.word.now (cond_none _ _ c.in_default.ensures)
+pub returns-in_err-account : goal.returns-in_err-account
+unfolding seed_line
+returns-in_err-account c = λ k is.
+    refused (λ d x. IsSiteDraft d (k ++ x ∷ [])) _ c.from_residual.result (known_account (accounts k) c.args.words.now) (λ a. fault_if (is_seed k a) Twice >>= λ _. Ok (seed a)) c.in_err-account.field-0.0
+    c.from_residual.ensures.1 (ap (λ names. known_account names c.args.words.now) (sym is.named) ∙ sym c.in_err-account.ensures.account)
 
-pub returns-in_default-find : goal.returns-in_default-find
-returns-in_default-find c = λ k is.
-    let name = cond_some_is _ _ _ c.in-Some.ensures in
-    let known : c.find.result ≡ number_of (accounts k) c.args.word.now = found c.args.self.now k c.args.word.now c.in-Some.name _ is name.1 c.find.ensures in
-    seed-unknown k c.args.word.now name.0 (sym known ∙ c.in_default-find.is)
-
-pub returns-then-mark : goal.returns-then-mark
-returns-then-mark c = λ k is.
-    let name = cond_some_is _ _ _ c.in-Some.ensures in
-    let known : c.find.result ≡ number_of (accounts k) c.args.word.now = found c.args.self.now k c.args.word.now c.in-Some.name _ is name.1 c.find.ensures in
-    seed-twice k c.args.word.now c.in-Some-find.account name.0 (sym known ∙ c.in-Some-find.is) (sym (is.seeded c.in-Some-find.account) ∙ sym c.mark.ensures.was ∙ c.if-mark.true)
+pub returns-in_err-fault_if : goal.returns-in_err-fault_if
+unfolding seed_line
+returns-in_err-fault_if c = λ k is.
+    let a = c.in_ok-account.account in
+    passed (λ d x. IsSiteDraft d (k ++ x ∷ [])) _ c.from_residual-in_err-fault_if.result (known_account (accounts k) c.args.words.now) (λ a. fault_if (is_seed k a) Twice >>= λ _. Ok (seed a)) a
+    (ap (λ names. known_account names c.args.words.now) (sym is.named) ∙ sym c.in_ok-account.ensures.account)
+    (refused (λ d x. IsSiteDraft d (k ++ x ∷ [])) _ c.from_residual-in_err-fault_if.result (fault_if (is_seed k a) Twice) (λ _. Ok (seed a)) c.in_err-fault_if.field-0.0
+    c.from_residual-in_err-fault_if.ensures.1 (ap (λ test. fault_if test Twice) (sym (is.seeded a) ∙ sym c.mark.ensures.was) ∙ sym c.in_err-fault_if.ensures))
 
 pub returns : goal.returns
+unfolding seed_line
 returns c = λ k is.
-    let name = cond_some_is _ _ _ c.in-Some.ensures in
-    let known : c.find.result ≡ number_of (accounts k) c.args.word.now = found c.args.self.now k c.args.word.now c.in-Some.name _ is name.1 c.find.ensures in
-    let i = c.in-Some-find.account in
-    let n : number_of (accounts k) c.args.word.now ≡ Some i = sym known ∙ c.in-Some-find.is in (
-      seed i,
-      seed-ok k c.args.word.now i name.0 n (sym (is.seeded i) ∙ sym c.mark.ensures.was ∙ c.if-mark.false),
-      draft-seed c.args.self.now _ k i is (below (λ (m : List ℕ). bytes_eq m c.args.word.now) (accounts k) i n) refl c.mark.ensures.is refl refl,
+    let a = c.in_ok-account.account in (
+      seed a,
+      ap (λ r. r >>= λ a. fault_if (is_seed k a) Twice >>= λ _. Ok (seed a)) (ap (λ names. known_account names c.args.words.now) (sym is.named) ∙ sym c.in_ok-account.ensures.account)
+          ∙ ap (λ r. r >>= λ _. Ok (seed a)) (ap (λ test. fault_if test Twice) (sym (is.seeded a) ∙ sym c.mark.ensures.was) ∙ sym c.in_ok-fault_if.ensures),
+      draft-seed c.args.self.now _ k a is (subst (λ n. a < n) (ap length is.named) c.in_ok-account.ensures.among) refl c.mark.ensures.is refl refl,
     )

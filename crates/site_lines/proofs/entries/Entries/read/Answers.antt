@@ -15,5 +15,5 @@ loop-word-preserved c =
     let read = c.loop-word.invariant.0 in (
       read ++ c.in-Some-number.entry ∷ [],
       c.add-in-Some-next_word.ensures ∙ ap (λ xs. take 17 (xs ++ c.in-Some-number.entry ∷ [])) c.loop-word.invariant.1 ∙ take-twice 17 read c.in-Some-number.entry,
-      after-more read _ _ c.in-Some-number.entry (sym c.in-Some-number.ensures) ∙ ap (λ words. after read (numbers words)) (sym c.in-Some-next_word.ensures) ∙ c.loop-word.invariant.2,
+      after-more read _ _ c.in-Some-number.entry (sym c.in-Some-number.ensures) ∙ ap (λ words. after read (numbers words)) (sym c.in-Some-next_word.ensures.word) ∙ c.loop-word.invariant.2,
     )

@@ -1,0 +1,11 @@
+mod Spelling
+mod Wording
+mod Recorded
+mod Placed
+mod SiteSteps
+mod ClaimSteps
+mod CapsLine
+mod ReadingBack
+mod Written
+mod GraphLists
+mod Texted

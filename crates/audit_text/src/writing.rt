@@ -1,0 +1,227 @@
+//! The canonical text of a proof, as it is written.
+
+ghost use Rattle.std.specs.Prelude.{◌≡◌, ◌≤◌, ◌<◌, ◌^◌, ℕ, ◌∷◌, [], ◌++◌, All, IfOk, OnOk, codes, decimal, length};
+ghost use Rattle.trust_types.specs.Layout.{degree, given};
+ghost use Rattle.trust_types.specs.Lines.{place};
+ghost use Rattle.trust_types.specs.Names.{IsName};
+ghost use Rattle.trust_types.specs.NameLists.{AreApart};
+ghost use Rattle.trust_types.specs.Rows.{GivesEachOnce};
+ghost use Rattle.frozen.specs.Revision.{certificates};
+ghost use Rattle.roster_form.specs.LevelRosters.{lists_of, AreAmong};
+ghost use Rattle.trust_types.specs.NodeWords.{name_of, node_name};
+ghost use Rattle.site_text.specs.View.{of_frozen};
+ghost use Rattle.audit_text.specs.Canonical.{line, caps_words, account_words, seed_words, cert_words, level_words, flow_words, IsCanonical, IsReadAs};
+ghost use Rattle.audit_text.specs.inner.Writing.{seeds_below, first_given, certs_below, lines_for};
+
+use frozen::Frozen;
+use itoa::Buffer;
+use roster_form::LevelRoster;
+use std::alloc::Global;
+use name_index::NameIndex;
+use trust_types::{AccountNo, Cert, CertGraph, FlowLine, Level, MOST_ACCOUNTS, NoMemory, Node};
+
+/// About as many bytes as the line of an account or of a certificate has.
+const LINE: usize = 32;
+
+/// Writes the proof text of a roster over the graph on which it was found: the site's table, accounts, seeds and standing
+/// certificates, and then the roster's level, flow and cut. It is the canonical text of these, and is read again as a proof
+/// of the same. One pass over the accounts, the certificates and the roster's lists.
+///
+/// # Errors
+/// [`NoMemory`] where there isn't enough for the text.
+pub fn proof_text(alloc: Global, frozen: &Frozen, roster: &LevelRoster) -> Result<Vec<u8>, NoMemory>
+    requires among { AreAmong (certificates frozen.now).accounts (lists_of roster.now) }
+    ensures canonical { IfOk result (λ text. IsCanonical (of_frozen frozen.now) roster.now.level (lists_of roster.now) text.items) }
+    ensures readable { IfOk result (λ text. IsReadAs (of_frozen frozen.now) roster.now.level (lists_of roster.now) text.items) }
+{
+    let names = frozen.names();
+    let lines = frozen.accounts() as usize + frozen.certs() as usize;
+    let mut text = Vec::with_capacity(alloc, LINE * lines)?;
+    put_caps(&mut text, frozen.caps().entries())?;
+    put_accounts(&mut text, names)?;
+    put_seeds(&mut text, frozen)?;
+    put_certs(&mut text, frozen)?;
+    put_level(&mut text, roster.level)?;
+    put_flow(&mut text, names, &roster.flow)?;
+    put_nodes(&mut text, b"pass", names, &roster.pass)?;
+    put_nodes(&mut text, b"full", names, &roster.full)?;
+    Ok(text)
+}
+
+/// The line `caps`, with the table's entries.
+fn put_caps(text: &mut Vec<u8>, entries: &[u32]) -> Result<(), NoMemory>
+    ensures { OnOk result (text.new.items ≡ text.old.items ++ line (caps_words entries.now)) }
+{
+    text.extend_from_slice(b"caps")?;
+    for entry in entries {
+        put_number(text, *entry)?;
+    }
+    text.push(b'\n')?;
+    Ok(())
+}
+
+/// A line `account` for each name, all of which differ.
+fn put_accounts(text: &mut Vec<u8>, names: &NameIndex) -> Result<(), NoMemory>
+    requires few { length names.now ≤ MOST_ACCOUNTS }
+    ensures written { OnOk result (text.new.items ≡ text.old.items ++ lines_for account_words names.now) }
+    ensures named { OnOk result (All IsName names.now) }
+    ensures apart { AreApart names.now }
+{
+    for account in 0..names.count() as u32 {
+        text.extend_from_slice(b"account")?;
+        put_name(text, names, AccountNo(account))?;
+        text.push(b'\n')?;
+    }
+    Ok(())
+}
+
+/// A line `seed` for each seed.
+fn put_seeds(text: &mut Vec<u8>, frozen: &Frozen) -> Result<(), NoMemory>
+    ensures { OnOk result (text.new.items ≡ text.old.items ++ lines_for (seed_words frozen.now.names) (seeds_below (certificates frozen.now) (certificates frozen.now).accounts)) }
+{
+    for number in 0..frozen.accounts() {
+        let account = AccountNo(number);
+        if frozen.is_seed(account) {
+            put_seed(text, frozen.names(), account)?;
+        }
+    }
+    Ok(())
+}
+
+fn put_seed(text: &mut Vec<u8>, names: &NameIndex, account: AccountNo) -> Result<(), NoMemory>
+    requires { account < length names.now }
+    ensures { OnOk result (text.new.items ≡ text.old.items ++ line (seed_words names.now account)) }
+{
+    text.extend_from_slice(b"seed")?;
+    put_name(text, names, account)?;
+    text.push(b'\n')?;
+    Ok(())
+}
+
+/// A line `cert` for each standing certificate, by giver and taker.
+fn put_certs(text: &mut Vec<u8>, frozen: &Frozen) -> Result<(), NoMemory>
+    ensures { OnOk result (text.new.items ≡ text.old.items ++ lines_for (cert_words frozen.now.names) (certs_below (degree frozen.now.rows) (given frozen.now.rows) (certificates frozen.now).accounts)) }
+{
+    for giver in 0..frozen.accounts() {
+        put_certs_of(text, frozen, AccountNo(giver))?;
+    }
+    Ok(())
+}
+
+/// The lines of the certificates that one account gives.
+fn put_certs_of(text: &mut Vec<u8>, frozen: &Frozen, giver: AccountNo) -> Result<(), NoMemory>
+    requires giver { giver < (certificates frozen.now).accounts }
+    requires readers { GivesEachOnce (certificates frozen.now) (degree frozen.now.rows) (given frozen.now.rows) }
+    ensures { OnOk result (text.new.items ≡ text.old.items ++ lines_for (cert_words frozen.now.names) (first_given (given frozen.now.rows) giver (degree frozen.now.rows giver))) }
+{
+    for i in 0..frozen.degree(giver) {
+        put_cert(text, frozen.names(), frozen.given(giver, i))?;
+    }
+    Ok(())
+}
+
+fn put_cert(text: &mut Vec<u8>, names: &NameIndex, cert: Cert) -> Result<(), NoMemory>
+    requires giver { cert.from < length names.now }
+    requires taker { cert.to < length names.now }
+    ensures { OnOk result (text.new.items ≡ text.old.items ++ line (cert_words names.now cert)) }
+{
+    text.extend_from_slice(b"cert")?;
+    put_name(text, names, cert.from)?;
+    put_name(text, names, cert.to)?;
+    put_word(text, cert.level.name().as_bytes())?;
+    text.push(b'\n')?;
+    Ok(())
+}
+
+/// The line `level`.
+fn put_level(text: &mut Vec<u8>, level: Level) -> Result<(), NoMemory>
+    ensures { OnOk result (text.new.items ≡ text.old.items ++ line (level_words level)) }
+{
+    text.extend_from_slice(b"level")?;
+    put_word(text, level.name().as_bytes())?;
+    text.push(b'\n')?;
+    Ok(())
+}
+
+/// A line `flow` for each line of a flow.
+fn put_flow(text: &mut Vec<u8>, names: &NameIndex, flow: &[FlowLine]) -> Result<(), NoMemory>
+    requires givers { All (λ l. place l.from ≤ length names.now) flow.now }
+    requires takers { All (λ l. l.to < length names.now) flow.now }
+    ensures written { OnOk result (text.new.items ≡ text.old.items ++ lines_for (flow_words names.now) flow.now) }
+    ensures small { OnOk result (All (λ l. l.units < 2 ^ 32) flow.now) }
+{
+    for edge in flow {
+        put_edge(text, names, edge)?;
+    }
+    Ok(())
+}
+
+fn put_edge(text: &mut Vec<u8>, names: &NameIndex, edge: &FlowLine) -> Result<(), NoMemory>
+    requires giver { place edge.now.from ≤ length names.now }
+    requires taker { edge.now.to < length names.now }
+    ensures written { OnOk result (text.new.items ≡ text.old.items ++ line (flow_words names.now edge.now)) }
+    ensures small { OnOk result (edge.now.units < 2 ^ 32) }
+{
+    text.extend_from_slice(b"flow")?;
+    put_node(text, names, edge.from)?;
+    put_name(text, names, edge.to)?;
+    put_number(text, edge.units)?;
+    text.push(b'\n')?;
+    Ok(())
+}
+
+/// A line of that keyword for each node.
+fn put_nodes(
+    text: &mut Vec<u8>,
+    keyword: &[u8],
+    names: &NameIndex,
+    nodes: &[Node],
+) -> Result<(), NoMemory>
+    requires { All (λ x. place x ≤ length names.now) nodes.now }
+    ensures { OnOk result (text.new.items ≡ text.old.items ++ lines_for (λ x. keyword.now ∷ node_name names.now x ∷ []) nodes.now) }
+{
+    for node in nodes {
+        text.extend_from_slice(keyword)?;
+        put_node(text, names, *node)?;
+        text.push(b'\n')?;
+    }
+    Ok(())
+}
+
+/// A space and the name of a node: a dash, where it is the root.
+fn put_node(text: &mut Vec<u8>, names: &NameIndex, node: Node) -> Result<(), NoMemory>
+    requires { place node ≤ length names.now }
+    ensures { OnOk result (text.new.items ≡ text.old.items ++ 32 ∷ node_name names.now node) }
+{
+    match node {
+        Node::Root => put_word(text, b"-"),
+        Node::Account(account) => put_name(text, names, account),
+    }
+}
+
+/// A space and the name of an account.
+fn put_name(text: &mut Vec<u8>, names: &NameIndex, account: AccountNo) -> Result<(), NoMemory>
+    requires { account < length names.now }
+    ensures written { OnOk result (text.new.items ≡ text.old.items ++ 32 ∷ name_of names.now account) }
+    ensures named { IsName (name_of names.now account) }
+{
+    let name = names.name(account);
+    put_word(text, name.bytes())
+}
+
+/// A space and a number.
+fn put_number(text: &mut Vec<u8>, number: u32) -> Result<(), NoMemory>
+    ensures { OnOk result (text.new.items ≡ text.old.items ++ 32 ∷ decimal number) }
+{
+    let mut buffer = Buffer::new();
+    put_word(text, buffer.format(number).as_bytes())
+}
+
+/// A space and a word.
+fn put_word(text: &mut Vec<u8>, word: &[u8]) -> Result<(), NoMemory>
+    ensures { OnOk result (text.new.items ≡ text.old.items ++ 32 ∷ word.now) }
+{
+    text.push(b' ')?;
+    text.extend_from_slice(word)?;
+    Ok(())
+}

@@ -1,8 +1,0 @@
-use Rattle.std.proofs.Common.{◌≡◌, ◌++◌}
-use Rattle.trust_types.specs.Layout.{degree, given}
-use Rattle.site_text.specs.Canonical.{cert_words}
-use Rattle.site_text.specs.Writing.{certs_below, lines_for}
-use Rattle.site_text.proofs.writing.put_certs.Given as goal
-
-abbrev pub invariant-loop-giver : goal.invariant-loop-giver
-invariant-loop-giver l = l.text.items ≡ l.initial.text.items ++ lines_for (cert_words l.frozen.names) (certs_below (degree l.frozen.rows) (given l.frozen.rows) l.giver)
