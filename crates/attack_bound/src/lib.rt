@@ -4,14 +4,11 @@
 ghost use Rattle.std.specs.Prelude.{ℕ, ◌≡◌, ◌<◌, length, nat_le, nat_lt};
 ghost use Rattle.trust_types.specs.Boundary.{bound, edges_into};
 ghost use Rattle.trust_types.specs.Capacity.{cap_by};
-ghost use Rattle.trust_types.specs.Levels.{IsGrade, rank};
+ghost use Rattle.trust_types.specs.Levels.{IsGrade};
 ghost use Rattle.trust_types.specs.Rows.{GivesEachOnce};
 ghost use Rattle.attack_bound.specs.Attack.{members_by, added};
 
 use trust_types::{AccountNo, CertGraph, Level};
-
-#[cfg(test)]
-mod tests;
 
 /// How many accounts of a set without a seed can be accepted at most at a level: the sum of capacity minus one over the
 /// outsiders that certify a member at the level or above. One of capacity 0 adds nothing.
@@ -76,16 +73,9 @@ fn certifies_member<G: CertGraph>(
 {
     for i in 0..graph.degree(account) {
         let cert = graph.given(account, i);
-        if reaches(cert.level, level) && members[cert.to.index()] {
+        if cert.is_edge_at(level) && members[cert.to.index()] {
             return true;
         }
     }
     false
-}
-
-/// Whether a certificate of a level is an edge of the graph of another.
-fn reaches(certified: Level, level: Level) -> bool
-    ensures { result ≡ nat_le (rank level) (rank certified) }
-{
-    certified >= level
 }

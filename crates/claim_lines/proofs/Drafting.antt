@@ -16,7 +16,7 @@ use Rattle.pair_map.specs.Pairs.{IsSet, value_at}
 use Rattle.claim_lines.specs.declared.drafts.ClaimDraft.{ClaimDraft}
 use Rattle.claim_lines.specs.Claim.{Claim, is_of_pair, is_placed, units_of}
 use Rattle.claim_lines.specs.Drafts.{IsClaimDraft}
-use Rattle.cut_check.specs.Proof.{IsNodeAmong, IsLineAmong}
+use Rattle.trust_types.specs.Lines.{IsNodeAmong, IsLineAmong}
 use Rattle.claim_lines.proofs.Flowing.{Differ, turned, some_units, no_units, units-push}
 
 pub cond_none : {A : Type 0} (t : Bool) (x : A) → None ≡ cond t (Some x) None → t ≡ false

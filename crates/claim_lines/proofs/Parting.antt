@@ -16,7 +16,7 @@ use Rattle.claim_lines.specs.declared.drafts.ClaimParts.{ClaimParts}
 use Rattle.claim_lines.specs.Claim.{Claim}
 use Rattle.claim_lines.specs.Flows.{line_of, units_at}
 use Rattle.claim_lines.specs.Drafts.{IsClaimDraft, ArePartsOf, ArePartsAmong}
-use Rattle.cut_check.specs.Proof.{IsNodeAmong, IsLineAmong}
+use Rattle.trust_types.specs.Lines.{IsNodeAmong, IsLineAmong}
 use Rattle.claim_lines.proofs.Flowing.{contained, flow_by_units, entries-lines, lines_rise, rising_differ}
 
 -- What a draft's parts are made of.

@@ -8,7 +8,8 @@ use Rattle.trust_types.specs.NameLists.{number_of}
 use Rattle.text_lines.specs.declared.faults.TextKind.{TextKind}
 use Rattle.text_lines.specs.declared.faults.TextKind.TheVariants.{BadLine, BadNumber, BadName, Unknown, Twice}
 use Rattle.text_lines.specs.Steps.{◌>>=◌, or_fault, none_if}
-use Rattle.claim_lines.specs.Claim.{Claim, is_node, node_of, units_of, is_of_pair, is_placed, flow_line, placed_node, pass_line, full_line, claim_form}
+use Rattle.claim_lines.specs.Claim.{Claim, units_of, is_of_pair, is_placed, flow_line, placed_node, pass_line, full_line, claim_form}
+use Rattle.trust_types.specs.NodeWords.{is_node, node_of}
 
 pub flow-bad_number : (ns : List (List ℕ)) (c : Claim) (g t w : List ℕ) → units_of w ≡ None → flow_line ns c g t w ≡ Err BadNumber
 unfolding flow_line

@@ -9,6 +9,7 @@ use Rattle.trust_types.specs.declared.flows.FlowLine.{FlowLine}
 use Rattle.trust_types.specs.Levels.{level_of, is_grade}
 use Rattle.trust_types.specs.Names.{is_name}
 use Rattle.trust_types.specs.NameLists.{number_of}
+use Rattle.trust_types.specs.NodeWords.{is_node, node_of}
 use Rattle.trust_types.specs.Lines.{same_node}
 use Rattle.text_lines.specs.declared.faults.TextKind.{TextKind}
 use Rattle.text_lines.specs.declared.faults.TextKind.TheVariants.{BadLine, BadNumber, BadLevel, BadName, Unknown, Twice}
@@ -24,17 +25,6 @@ pub record Claim : Type 0 where
 
 abbrev pub nothing : Claim
 nothing = record { flow = []; pass = []; full = [] }
-
-abbrev pub is_dash : List ℕ → Bool
-is_dash word = bytes_eq word (codes "-")
-
--- A node's place holds a dash, which is the root, or a name.
-abbrev pub is_node : List ℕ → Bool
-is_node word = is_dash word || is_name word
-
--- The node of that word, where it is the root or an account has the name.
-abbrev pub node_of : List (List ℕ) → List ℕ → Option Node
-node_of names word = if is_dash word then Some Root else (elim (number_of names word) [ None ↦ None | Some a ↦ Some (Account a) ])
 
 -- The number of units that a word writes, which isn't 0.
 abbrev pub units_of : List ℕ → Option ℕ

@@ -5,7 +5,7 @@ use Rattle.trust_types.specs.declared.accounts.Node.TheVariants.{Root}
 use Rattle.trust_types.specs.declared.flows.FlowLine.{FlowLine}
 use Rattle.trust_types.specs.declared.flows.Side.TheVariants.{Outside}
 use Rattle.trust_types.specs.Lines.{place, is_before, flow_of, sides_of}
-use Rattle.cut_check.specs.Proof.{IsNodeAmong, IsLineAmong}
+use Rattle.trust_types.specs.Lines.{IsNodeAmong, IsLineAmong}
 use Rattle.pair_map.specs.Pairs.{value_at}
 use Rattle.claim_lines.specs.declared.drafts.ClaimDraft.{ClaimDraft}
 use Rattle.claim_lines.specs.declared.drafts.ClaimParts.{ClaimParts}

@@ -8,7 +8,8 @@ use crate::units::units_of;
 use pair_map::PairMap;
 use std::alloc::Global;
 use text_lines::{LineFault, TextKind, Words, is_line};
-use trust_types::{FlowLine, Name, NameIndex, NoMemory, Node};
+use name_index::NameIndex;
+use trust_types::{FlowLine, Name, NoMemory, Node};
 
 /// A flow and a cut while their lines are read. It takes one byte an account, and memory for what the lines say.
 #[derive(Drop)]
@@ -40,7 +41,7 @@ impl ClaimDraft {
     ghost use Rattle.text_lines.specs.Reading.{Reads};
     ghost use Rattle.claim_lines.specs.Claim.{Claim, nothing, flow_line, placed_node, pass_line, full_line, claim_form, claim_line, has_root};
     ghost use Rattle.claim_lines.specs.Drafts.{IsFor, IsClaimDraft, ArePartsOf, ArePartsAmong};
-    ghost use Rattle.cut_check.specs.Proof.{IsNodeAmong};
+    ghost use Rattle.trust_types.specs.Lines.{IsNodeAmong};
 
     /// Nothing is claimed yet, of a site with so many accounts.
     ///

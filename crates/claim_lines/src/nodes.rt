@@ -3,9 +3,10 @@
 ghost use Rattle.std.specs.Prelude.{◌≡◌, ◌<◌, ◌≤◌, ◌^◌, IsTrue, IfSome, length};
 ghost use Rattle.std.specs.Str.{bytes_eq};
 ghost use Rattle.trust_types.specs.Lines.{place};
-ghost use Rattle.claim_lines.specs.Claim.{is_dash, is_node, node_of};
+ghost use Rattle.trust_types.specs.NodeWords.{is_dash, is_node, node_of};
 
-use trust_types::{Name, NameIndex, Node};
+use name_index::NameIndex;
+use trust_types::{Name, Node};
 
 /// Whether the bytes are the same.
 pub(crate) fn is_same(word: &[u8], other: &[u8]) -> bool

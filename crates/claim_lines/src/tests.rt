@@ -4,7 +4,8 @@ use crate::{ClaimDraft, is_level_line, read_level};
 use std::alloc::Global;
 use std::test::Fail;
 use text_lines::{LineFault, TextKind};
-use trust_types::{AccountNo, FlowLine, Level, Name, NameIndex, Node};
+use name_index::NameIndex;
+use trust_types::{AccountNo, FlowLine, Level, Name, Node};
 
 fn two_names(alloc: Global) -> Result<NameIndex, Fail>
     ensures { IfOk result (λ names. length names ≡ 2) }

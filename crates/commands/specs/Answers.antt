@@ -14,7 +14,8 @@ use Rattle.cut_check.specs.declared.proofs.Proof.{Proof}
 use Rattle.cut_check.specs.declared.verdicts.Verdict.{Verdict}
 use Rattle.cut_check.specs.declared.verdicts.Verdict.TheVariants.{NoEdge, NoBalance, NoRoom, NoService, NoClosure, NoMatch, Greatest}
 use Rattle.cut_check.specs.Check.{IsVerdictOn, ServesMost}
-use Rattle.cut_check.specs.Line.{verdict_line, name_of}
+use Rattle.cut_check.specs.Line.{verdict_line}
+use Rattle.trust_types.specs.NodeWords.{name_of}
 use Rattle.site_text.specs.Site.{SiteText, ProofText, site, proof}
 use Rattle.site_text.specs.View.{View, of_text, IsProofOf}
 use Rattle.site_text.specs.Canonical.{IsAudit}

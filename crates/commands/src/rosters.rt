@@ -3,7 +3,7 @@
 ghost use Rattle.std.specs.Prelude.{ℕ, List, ◌≡◌, ◌<◌, ◌∷◌, ◌++◌, All as Each, IfOk, OnOk, length, flat_map};
 ghost use Rattle.trust_types.specs.Levels.{IsGrade};
 ghost use Rattle.site_text.specs.View.{of_frozen};
-ghost use Rattle.cut_check.specs.Line.{name_of};
+ghost use Rattle.trust_types.specs.NodeWords.{name_of};
 ghost use Rattle.commands.specs.declared.command.Asked.TheVariants.{All};
 ghost use Rattle.commands.specs.Commands.{AreGrades};
 ghost use Rattle.commands.specs.Answers.{AreRosterLines, IsRosterLine, roster_line};
@@ -14,7 +14,8 @@ use roster_form::{Candidate, LevelRoster};
 use solver::{solve_alone, solve_one};
 use std::alloc::Global;
 use std::sync::Arc;
-use trust_types::{AccountNo, Level, NameIndex, NoMemory};
+use name_index::NameIndex;
+use trust_types::{AccountNo, Level, NoMemory};
 
 /// The lines of the rosters that are asked for, lowest grade first.
 pub fn roster_lines(alloc: Global, asked: Asked, frozen: &Arc<Frozen>) -> Result<Vec<u8>, NoMemory>

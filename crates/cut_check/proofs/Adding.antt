@@ -10,7 +10,7 @@ use Rattle.trust_types.specs.Sum.{sum_below}
 use Rattle.trust_types.specs.Flow.{Flow, units_in, units_out}
 use Rattle.trust_types.specs.Lines.{place, same_node, flow_of}
 use Rattle.trust_types.proofs.Sums.{sum_below-add, sum_below-eq, sum_below-zero}
-use Rattle.cut_check.specs.Proof.{IsBefore, IsLineAmong}
+use Rattle.trust_types.specs.Lines.{IsLineBefore, IsLineAmong}
 use Rattle.cut_check.specs.Sums.{AreSums}
 use Rattle.cut_check.proofs.FlowLines.{carried, carried_pair, before_pairs, line_of_units}
 
@@ -118,12 +118,12 @@ pub record AreAdded (n : ℕ) (lines : List FlowLine) (i sent : ℕ) (ins outs :
 pub record IsNext (n : ℕ) (lines : List FlowLine) (i : ℕ) (l : FlowLine) : Type 0 where
   pub within : i < length lines
   pub is : l ≡ slice_index_or lines i l
-  pub rises : AllPairs IsBefore lines
+  pub rises : AllPairs IsLineBefore lines
   pub among : IsLineAmong n l
   pub fits : l.units ≤ 4294967295
 
 pub next_line : {n : ℕ} {lines : List FlowLine} {i : ℕ} {l : FlowLine} → i < length lines → l ≡ slice_index_or lines i l →
-    AllPairs IsBefore lines → All (IsLineAmong n) lines → l.units ≤ 4294967295 → IsNext n lines i l
+    AllPairs IsLineBefore lines → All (IsLineAmong n) lines → l.units ≤ 4294967295 → IsNext n lines i l
 next_line {n = n} {i = i} {l = l} within is rises among fits =
     record { within = within; is = is; rises = rises; among = subst (IsLineAmong n) (sym is) (among i l within); fits = fits }
 
@@ -146,7 +146,7 @@ none_before {lines = lines} {i = i} {l = l} next x b some = elim (cases_lt 0 (fl
       let pair = carried_pair x b l some in
       let m : FlowLine = slice_index_or lines k l in
       let same : slice_index_or (take i lines) k l ≡ m = get_or-take i lines k l before in
-      let order : IsBefore m l = subst (λ (later : FlowLine). IsBefore m later) (sym next.is) (next.rises k i l before next.within) in
+      let order : IsLineBefore m l = subst (λ (later : FlowLine). IsLineBefore m later) (sym next.is) (next.rises k i l before next.within) in
       let giver : place m.from ≡ place l.from = ap (λ (line : FlowLine). place line.from) (sym same) ∙ ap place (line.2 l).0 ∙ ap place (sym pair.0) in
       let taker : m.to ≡ l.to = ap (λ (line : FlowLine). line.to) (sym same) ∙ (line.2 l).1 ∙ sym pair.1 in
       elim (before_pairs m l order) [ inl earlier ↦ absurd (omega (arith, earlier, giver)) | inr later ↦ absurd (omega (arith, later.1, taker)) ]

@@ -6,7 +6,7 @@ use Rattle.trust_types.specs.declared.accounts.Node.{Node}
 use Rattle.trust_types.specs.declared.accounts.Node.TheVariants.{Root, Account}
 use Rattle.trust_types.specs.declared.flows.FlowLine.{FlowLine}
 use Rattle.trust_types.specs.Lines.{place, same_node, flow_of}
-use Rattle.cut_check.specs.Proof.{IsBefore}
+use Rattle.trust_types.specs.Lines.{IsLineBefore}
 
 pub same_place : (x y : Node) → place x ≡ place y → x ≡ y
 same_place Root Root e = refl
@@ -15,7 +15,7 @@ same_place (Account a) Root e = absurd (omega arith)
 same_place (Account a) (Account b) e = ap Account (omega arith)
 
 -- By giver, then by taker, as a fact.
-pub before_pairs : (l m : FlowLine) → IsBefore l m → (place l.from < place m.from) ⊎ ((place l.from ≡ place m.from) × (l.to < m.to))
+pub before_pairs : (l m : FlowLine) → IsLineBefore l m → (place l.from < place m.from) ⊎ ((place l.from ≡ place m.from) × (l.to < m.to))
 before_pairs l m before =
     elim (or_cases (nat_lt (place l.from) (place m.from)) (same_node l.from m.from && nat_lt l.to m.to) before) [
       | inl giver ↦ inl (ltb-true _ _ giver)

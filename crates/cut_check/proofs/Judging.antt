@@ -9,7 +9,7 @@ use Rattle.cut_check.specs.declared.verdicts.Verdict.TheVariants.{NoMatch, Great
 use Rattle.cut_check.specs.Verdict.{KeepsRules, IsVerdict}
 use Rattle.trust_types.specs.declared.flows.Side.{Side}
 use Rattle.trust_types.specs.declared.accounts.Node.{Node}
-use Rattle.trust_types.specs.Layout.{accounts, certificates}
+use Rattle.trust_types.specs.Layout.{accounts, row_certificates}
 use Rattle.trust_types.specs.Graph.{Certificates}
 use Rattle.trust_types.specs.Capacity.{cap_by}
 use Rattle.trust_types.specs.Cut.{Sides, value}
@@ -22,17 +22,17 @@ use Rattle.cut_check.specs.Sides.{side_by}
 use Rattle.cut_check.specs.Figures.{AreFigures}
 
 pub found_of_cut : {p : Proof} {root : RootFigures} {ins outs : List ℕ} {at : List Side} {caps : List ℕ} → AreFigures p root ins outs at caps →
-    (found : Option (Node × ℕ)) → FindsPair (accounts p.graph) (EndsInside (certificates p.graph) p.level (side_by root.side at)) found →
-    FindsPair (accounts p.graph) (EndsInside (certificates p.graph) p.level (sides_of p.pass.items p.full.items)) found
+    (found : Option (Node × ℕ)) → FindsPair (accounts p.graph) (EndsInside (row_certificates p.graph) p.level (side_by root.side at)) found →
+    FindsPair (accounts p.graph) (EndsInside (row_certificates p.graph) p.level (sides_of p.pass.items p.full.items)) found
 found_of_cut {p = p} figures found finds =
-    subst (λ (side : Sides). FindsPair (accounts p.graph) (EndsInside (certificates p.graph) p.level side) found) (λ i x. figures.sides x i) finds
+    subst (λ (side : Sides). FindsPair (accounts p.graph) (EndsInside (row_certificates p.graph) p.level side) found) (λ i x. figures.sides x i) finds
 
 pub value_of_cut : {p : Proof} {root : RootFigures} {ins outs : List ℕ} {at : List Side} {caps : List ℕ} → AreFigures p root ins outs at caps →
     (worth : ℕ) → ((g : Certificates) → g.accounts ≡ length at → worth ≡ value g (cap_by root.capacity caps) (side_by root.side at)) →
-    worth ≡ value (certificates p.graph) (cap_by root.capacity caps) (sides_of p.pass.items p.full.items)
+    worth ≡ value (row_certificates p.graph) (cap_by root.capacity caps) (sides_of p.pass.items p.full.items)
 value_of_cut {p = p} {root = root} {caps = caps} figures worth is =
-    subst (λ (side : Sides). worth ≡ value (certificates p.graph) (cap_by root.capacity caps) side) (λ i x. figures.sides x i)
-    (is (certificates p.graph) (sym figures.each))
+    subst (λ (side : Sides). worth ≡ value (row_certificates p.graph) (cap_by root.capacity caps) side) (λ i x. figures.sides x i)
+    (is (row_certificates p.graph) (sym figures.each))
 
 pub compared : {g : Certificates} {level : Level} {f : Flow} {side : Sides} (capacity : Node → ℕ) → KeepsRules g level capacity f side → (sent worth : ℕ) →
     sent ≡ units_out g.accounts f Root → worth ≡ value g capacity side →

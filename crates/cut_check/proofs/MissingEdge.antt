@@ -9,7 +9,7 @@ use Rattle.trust_types.specs.declared.flows.FlowLine.{FlowLine}
 use Rattle.trust_types.specs.declared.graphs.Cert.{Cert}
 use Rattle.trust_types.specs.Graph.{Certificates, HasEdge}
 use Rattle.trust_types.specs.Lines.{place, flow_of}
-use Rattle.cut_check.specs.Proof.{IsLineAmong, IsBefore}
+use Rattle.trust_types.specs.Lines.{IsLineAmong, IsLineBefore}
 use Rattle.cut_check.specs.Rules.{KeepsToEdge}
 use Rattle.cut_check.specs.Firsts.{FailsFirstAtPair, HoldsAtPairs}
 use Rattle.cut_check.specs.Cursor.{AreLesser, HasPassed}
@@ -31,7 +31,7 @@ passed_further degree given x (Account a) b c k same greater passed =
     record { within = here.within; lesser = λ i before. omega (arith, here.lesser i before) }
 
 -- A pair before that of line i with units stands on a line before.
-earlier_line : (lines : List FlowLine) (i : ℕ) → AllPairs IsBefore lines → i < length lines → (d : FlowLine) (y : Node) (b : ℕ) →
+earlier_line : (lines : List FlowLine) (i : ℕ) → AllPairs IsLineBefore lines → i < length lines → (d : FlowLine) (y : Node) (b : ℕ) →
     ((place y < place (slice_index_or lines i d).from) ⊎ ((place y ≡ place (slice_index_or lines i d).from) × (b < (slice_index_or lines i d).to))) →
     (k : ℕ) → k < length lines → place (slice_index_or lines k d).from ≡ place y → (slice_index_or lines k d).to ≡ b → k < i
 earlier_line lines i rises within d y b before k at giver taker = elim (cases_lt k i) [
@@ -47,7 +47,7 @@ earlier_line lines i rises within d y b before k at giver taker = elim (cases_lt
 ]
 
 pub line_fails_first : {g : Certificates} {degree : ℕ → ℕ} {given : ℕ → ℕ → Cert} {level : Level} {lines : List FlowLine} {i : ℕ} {giver : Node} {passed : ℕ} →
-    LieOnEdges g degree given level lines i giver passed → All (IsLineAmong g.accounts) lines → AllPairs IsBefore lines → i < length lines →
+    LieOnEdges g degree given level lines i giver passed → All (IsLineAmong g.accounts) lines → AllPairs IsLineBefore lines → i < length lines →
     (l : FlowLine) → l ≡ slice_index_or lines i l → (HasEdge g level l.from l.to → ⊥) →
     (place l.from ≤ g.accounts) × (l.to < g.accounts) × FailsFirstAtPair (KeepsToEdge g level (flow_of lines)) l.from l.to
 line_fails_first {g = g} {level = level} {lines = lines} {i = i} so_far among rises within l is missing =
@@ -82,7 +82,7 @@ lines_hold {g = g} {level = level} {lines = lines} {i = i} so_far all x b some =
     (subst (λ (taker : ℕ). HasEdge g level (slice_index_or lines k d).from taker) here.1 (so_far.edges k d (omega (arith, line.1))))
 
 pub one_more_line : {g : Certificates} {degree : ℕ → ℕ} {given : ℕ → ℕ → Cert} {level : Level} {lines : List FlowLine} {i : ℕ} {giver : Node} {passed : ℕ} →
-    LieOnEdges g degree given level lines i giver passed → AllPairs IsBefore lines → i < length lines → (l : FlowLine) →
+    LieOnEdges g degree given level lines i giver passed → AllPairs IsLineBefore lines → i < length lines → (l : FlowLine) →
     l ≡ slice_index_or lines i l → HasEdge g level l.from l.to → (now : Node) → now ≡ l.from → (further : ℕ) → HasPassed degree given l.from l.to further →
     LieOnEdges g degree given level lines (i + 1) now further
 one_more_line {g = g} {degree = degree} {given = given} {level = level} {lines = lines} {i = i} so_far rises within l is edge now at further reached =
@@ -99,7 +99,7 @@ one_more_line {g = g} {degree = degree} {given = given} {level = level} {lines =
           let m : FlowLine = slice_index_or lines k d in
           let givers : l.from ≡ m.from = sym at ∙ same in
           let places : place l.from ≡ place m.from = ap place givers in
-          let order : IsBefore l m = subst (λ (first : FlowLine). IsBefore first m) (sym (line_at d)) (rises i k d (omega arith) below) in
+          let order : IsLineBefore l m = subst (λ (first : FlowLine). IsLineBefore first m) (sym (line_at d)) (rises i k d (omega arith) below) in
           let greater : l.to < m.to = elim (before_pairs l m order) [ inl lesser ↦ absurd (omega arith) | inr pair ↦ pair.1 ] in
           passed_further degree given l.from m.from l.to m.to further givers greater reached;
     }

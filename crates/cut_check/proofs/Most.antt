@@ -5,7 +5,7 @@ use Rattle.trust_types.specs.declared.accounts.Node.{Node}
 use Rattle.trust_types.specs.declared.accounts.Node.TheVariants.{Root}
 use Rattle.trust_types.specs.declared.flows.Side.TheVariants.{Outside}
 use Rattle.trust_types.specs.Graph.{Certificates}
-use Rattle.trust_types.specs.Layout.{certificates}
+use Rattle.trust_types.specs.Layout.{row_certificates}
 use Rattle.trust_types.specs.Flow.{Flow, IsFeasible}
 use Rattle.trust_types.specs.Cut.{Sides, IsCut}
 use Rattle.trust_types.specs.Lines.{flow_of, sides_of}
@@ -28,7 +28,7 @@ feasible kept = record {
 
 pub serves_most : (p : Proof) → sides_of p.pass.items p.full.items Root ≢ Outside → (n : ℕ) → IsVerdictOn p (Greatest n) → ServesMost p n
 serves_most p root n verdict =
-    let g : Certificates = certificates p.graph in
+    let g : Certificates = row_certificates p.graph in
     let f : Flow = flow_of p.flow.items in
     let side : Sides = sides_of p.pass.items p.full.items in
     let capacity : Node → ℕ = verdict.0 in

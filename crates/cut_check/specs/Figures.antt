@@ -3,7 +3,7 @@ use Rattle.std.specs.Prelude.{ℕ, ◌≡◌, List, length}
 use Rattle.trust_types.specs.declared.accounts.Node.{Node}
 use Rattle.trust_types.specs.declared.accounts.Node.TheVariants.{Root}
 use Rattle.trust_types.specs.declared.flows.Side.{Side}
-use Rattle.trust_types.specs.Layout.{accounts, certificates}
+use Rattle.trust_types.specs.Layout.{accounts, row_certificates}
 use Rattle.trust_types.specs.Capacity.{AreCapacities, cap_by}
 use Rattle.trust_types.specs.Flow.{units_out}
 use Rattle.trust_types.specs.Lines.{flow_of, sides_of}
@@ -15,7 +15,7 @@ use Rattle.cut_check.specs.Sums.{AreSums}
 -- The root's figures and lists of the accounts': the capacities of the nodes, the sums of the flow, the sides of the cut.
 pub record AreFigures (p : Proof) (root : RootFigures) (ins outs : List ℕ) (at : List Side) (caps : List ℕ) :
     Type 0 where
-  pub capacities : AreCapacities (certificates p.graph) p.level p.caps (cap_by root.capacity caps)
+  pub capacities : AreCapacities (row_certificates p.graph) p.level p.caps (cap_by root.capacity caps)
   pub all : length caps ≡ accounts p.graph
   pub sums : AreSums (accounts p.graph) (flow_of p.flow.items) ins outs
   pub both : length outs ≡ accounts p.graph

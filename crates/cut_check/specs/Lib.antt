@@ -1,4 +1,3 @@
-pub mod Proof
 pub mod Rules
 pub mod Firsts
 pub mod Verdict

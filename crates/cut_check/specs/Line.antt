@@ -1,10 +1,9 @@
 -- The line that a verdict is printed as.
-use Rattle.std.specs.Prelude.{ℕ, ◌<◌, List, [], ◌++◌, codes, decimal, slice_index_or}
-use Rattle.trust_types.specs.declared.accounts.Node.{Node}
-use Rattle.trust_types.specs.declared.accounts.Node.TheVariants.{Root, Account}
+use Rattle.std.specs.Prelude.{ℕ, ◌<◌, List, ◌++◌, codes, decimal}
 use Rattle.cut_check.specs.declared.verdicts.Verdict.{Verdict}
 use Rattle.cut_check.specs.declared.verdicts.Verdict.TheVariants.{NoEdge, NoBalance, NoRoom, NoService, NoClosure, NoMatch, Greatest}
-use Rattle.cut_check.specs.Proof.{IsNodeAmong}
+use Rattle.trust_types.specs.Lines.{IsNodeAmong}
+use Rattle.trust_types.specs.NodeWords.{name_of, node_name}
 
 -- The accounts that a verdict names are accounts of the graph.
 abbrev pub IsAmong : ℕ → Verdict → Type 0
@@ -15,14 +14,6 @@ IsAmong accounts (NoService a) = a < accounts
 IsAmong accounts (NoClosure x b) = IsNodeAmong accounts x × (b < accounts)
 IsAmong accounts (NoMatch sent worth) = Unit {0}
 IsAmong accounts (Greatest sent) = Unit {0}
-
-abbrev pub name_of : List (List ℕ) → ℕ → List ℕ
-name_of names a = slice_index_or names a []
-
--- The root is written as a dash, an account by its name.
-abbrev pub node_name : List (List ℕ) → Node → List ℕ
-node_name names Root = codes "-"
-node_name names (Account a) = name_of names a
 
 abbrev pub verdict_words : List (List ℕ) → Verdict → List ℕ
 verdict_words names (NoEdge x b) = codes "no edge " ++ node_name names x ++ codes " " ++ name_of names b

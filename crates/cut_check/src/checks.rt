@@ -1,5 +1,5 @@
 ghost use Rattle.std.specs.Prelude.{ℕ, ◌≡◌, ◌<◌, ◌≤◌, ◌^◌, ◌==◌, length, vec_len, take, if◌then◌else◌};
-ghost use Rattle.trust_types.specs.Layout.{accounts, certificates, degree, given};
+ghost use Rattle.trust_types.specs.Layout.{accounts, row_certificates, degree, given};
 ghost use Rattle.trust_types.specs.Rows.{GivesEachOnce};
 ghost use Rattle.cut_check.specs.Line.{IsAmong};
 ghost use Rattle.cut_check.specs.Check.{IsVerdictOn, ServesMost};
@@ -93,7 +93,7 @@ fn judge(
     caps: &[u32],
 ) -> Verdict
     requires few { accounts proof.now.graph < 2 ^ 32 }
-    requires readers { let g = proof.now.graph in GivesEachOnce (certificates g) (degree g) (given g) }
+    requires readers { let g = proof.now.graph in GivesEachOnce (row_certificates g) (degree g) (given g) }
     requires figures { AreFigures proof.now root into.now out.now sides.now caps.now }
     ensures verdict { IsVerdictOn proof.now result }
     ensures among { IsAmong (accounts proof.now.graph) result }

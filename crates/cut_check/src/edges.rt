@@ -8,7 +8,7 @@ ghost use Rattle.trust_types.specs.Levels.{rank, IsGrade};
 ghost use Rattle.trust_types.specs.Graph.{HasEdge};
 ghost use Rattle.trust_types.specs.Rows.{GivesEachOnce};
 ghost use Rattle.trust_types.specs.Lines.{flow_of};
-ghost use Rattle.cut_check.specs.Proof.{IsNodeAmong, IsLineAmong, IsBefore};
+ghost use Rattle.trust_types.specs.Lines.{IsNodeAmong, IsLineAmong, IsLineBefore};
 ghost use Rattle.cut_check.specs.Rules.{KeepsToEdge, EndsInside};
 ghost use Rattle.cut_check.specs.Searches.{FindsAccount, FindsPair};
 ghost use Rattle.cut_check.specs.Sides.{side_by};
@@ -65,7 +65,7 @@ pub fn first_missing_edge<G: CertGraph>(
     requires grade { IsGrade level }
     requires readers { GivesEachOnce (G.certificates graph.now) (G.degree_of graph.now) (G.cert_of graph.now) }
     requires lines { All (IsLineAmong (G.certificates graph.now).accounts) flow.now }
-    requires rises { AllPairs IsBefore flow.now }
+    requires rises { AllPairs IsLineBefore flow.now }
     ensures { let g = G.certificates graph.now in FindsPair g.accounts (KeepsToEdge g level (flow_of flow.now)) result }
 {
     let mut cursor = Cursor {
@@ -116,14 +116,7 @@ fn certifies_at<G: CertGraph>(
         return false;
     }
     let cert = graph.given(giver, passed);
-    cert.to == taker && reaches(cert.level, level)
-}
-
-/// Whether a certificate of a level is an edge of the graph of another.
-fn reaches(certified: Level, level: Level) -> bool
-    ensures { IsTrue result ↔ (rank level ≤ rank certified) }
-{
-    certified >= level
+    cert.to == taker && cert.is_edge_at(level)
 }
 
 /// Whether a node of this side lies outside the cut.

@@ -1,7 +1,8 @@
 ghost use Rattle.std.specs.Prelude.{◌≡◌, ◌<◌, IfOk, length};
 ghost use Rattle.trust_types.specs.Layout.{accounts};
-ghost use Rattle.cut_check.specs.Proof.{IsNodeAmong};
-ghost use Rattle.cut_check.specs.Line.{IsAmong, verdict_line, node_name, name_of};
+ghost use Rattle.trust_types.specs.Lines.{IsNodeAmong};
+ghost use Rattle.cut_check.specs.Line.{IsAmong, verdict_line};
+ghost use Rattle.trust_types.specs.NodeWords.{node_name, name_of};
 
 use crate::proofs::Proof;
 use crate::verdicts::Verdict;

@@ -5,7 +5,7 @@ ghost use Rattle.trust_types.specs.Levels.{IsGrade};
 ghost use Rattle.trust_types.specs.NameLists.{AreApart};
 ghost use Rattle.trust_types.specs.Layout.{accounts};
 ghost use Rattle.trust_types.specs.Lines.{sides_of};
-ghost use Rattle.cut_check.specs.Proof.{IsNodeAmong, IsLineAmong, IsBefore};
+ghost use Rattle.trust_types.specs.Lines.{IsNodeAmong, IsLineAmong, IsLineBefore};
 
 use trust_types::{Caps, CertList, FlowLine, Level, Name, Node};
 
@@ -29,7 +29,7 @@ pub struct Proof {
     pub ghost names_differ: { AreApart names.items },
     pub ghost grade: { IsGrade level },
     pub ghost lines: { All (IsLineAmong (accounts graph)) flow.items },
-    pub ghost lines_rise: { AllPairs IsBefore flow.items },
+    pub ghost lines_rise: { AllPairs IsLineBefore flow.items },
     pub ghost pass_among: { All (IsNodeAmong (accounts graph)) pass.items },
     pub ghost full_among: { All (IsNodeAmong (accounts graph)) full.items },
     pub ghost nodes_differ: { AllPairs (λ x y. x ≢ y) (pass.items ++ full.items) },

@@ -7,7 +7,7 @@ ghost use Rattle.trust_types.specs.Graph.{Certificates};
 ghost use Rattle.trust_types.specs.Capacity.{cap_by};
 ghost use Rattle.trust_types.specs.Cut.{value, root_share, account_share};
 ghost use Rattle.trust_types.specs.Lines.{same_node, sides_of};
-ghost use Rattle.cut_check.specs.Proof.{IsNodeAmong};
+ghost use Rattle.trust_types.specs.Lines.{IsNodeAmong};
 ghost use Rattle.cut_check.specs.Sides.{side_by};
 
 use trust_types::{Node, Side};

@@ -5,7 +5,7 @@ ghost use Rattle.trust_types.specs.declared.accounts.Node.TheVariants.{Root};
 ghost use Rattle.trust_types.specs.Capacity.{cap_by};
 ghost use Rattle.trust_types.specs.Flow.{Flow, units_out};
 ghost use Rattle.trust_types.specs.Lines.{flow_of};
-ghost use Rattle.cut_check.specs.Proof.{IsLineAmong, IsBefore};
+ghost use Rattle.trust_types.specs.Lines.{IsLineAmong, IsLineBefore};
 ghost use Rattle.cut_check.specs.Rules.{IsBalanced, HasRoom, HasService};
 ghost use Rattle.cut_check.specs.Searches.{FindsAccount, FindsNode};
 ghost use Rattle.cut_check.specs.Sums.{AreSums};
@@ -17,7 +17,7 @@ pub fn add_up(flow: &[FlowLine], into: &mut [u64], out: &mut [u64]) -> u64
     requires few { length into.old < 2 ^ 32 }
     requires accounts { length out.old ≡ length into.old }
     requires lines { All (IsLineAmong (length into.old)) flow.now }
-    requires rises { AllPairs IsBefore flow.now }
+    requires rises { AllPairs IsLineBefore flow.now }
     ensures sums { AreSums (length into.new) (flow_of flow.now) into.new out.new }
     ensures root { result ≡ units_out (length into.new) (flow_of flow.now) Root }
 {

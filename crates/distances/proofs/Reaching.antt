@@ -12,7 +12,7 @@ use Rattle.trust_types.specs.Levels.{rank, IsGrade}
 use Rattle.trust_types.specs.Graph.{Certificates, HasEdge}
 use Rattle.trust_types.specs.Rows.{GivesEachOnce}
 use Rattle.trust_types.proofs.Walks.{edge_of_cert, cert_of_edge}
-use Rattle.distances.specs.Reached.{Reaches, HasRoom}
+use Rattle.distances.specs.Reached.{Reaches, HasQueueRoom}
 
 -- an account is reached or not
 pub seen_or_not : (out : List ℕ) (b : ℕ) → (0 < slice_index out b) ⊎ (slice_index out b ≡ 0)
@@ -125,7 +125,7 @@ weight : ℕ → ℕ
 weight c = cond (nat_lt 0 c) 1 0
 
 -- an account that wasn't reached finds room in the queue
-pub room_for : {out : List ℕ} {queue : Vec ℕ Global} (a c : ℕ) → HasRoom out queue → a < length out → slice_index out a ≡ 0 → 0 < c → length queue.items < vec_capacity queue
+pub room_for : {out : List ℕ} {queue : Vec ℕ Global} (a c : ℕ) → HasQueueRoom out queue → a < length out → slice_index out a ≡ 0 → 0 < c → length queue.items < vec_capacity queue
 unfolding weight
 room_for {out = out} a c room within unseen some =
     let more = sum_by-set weight out a c 0 within in

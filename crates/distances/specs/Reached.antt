@@ -24,7 +24,7 @@ pub record Reaches (P : ℕ → Type 0) (capacity : ℕ) (out queue out' queue' 
   pub waits : (b : ℕ) → IsNew out out' b → (i : ℕ) × (length queue ≤ i) × (i < length queue') × (slice_index queue' i ≡ b)
 
 -- As many accounts stand in the queue as were reached, and it has room for all.
-pub record HasRoom (out : List ℕ) (queue : Vec ℕ Global) : Type 0 where
+pub record HasQueueRoom (out : List ℕ) (queue : Vec ℕ Global) : Type 0 where
   pub number : count_by (nat_lt 0) out ≡ length queue.items
   pub room : length out ≤ vec_capacity queue
 

@@ -6,7 +6,7 @@ ghost use Rattle.trust_types.specs.Graph.{HasEdge};
 ghost use Rattle.trust_types.specs.Levels.{IsGrade, rank};
 ghost use Rattle.trust_types.specs.Rows.{GivesEachOnce};
 ghost use Rattle.trust_types.specs.Capacity.{entry, AreCapacities, cap_by};
-ghost use Rattle.distances.specs.Reached.{Reaches, HasRoom, IsSeed, IsCertifiedFrom};
+ghost use Rattle.distances.specs.Reached.{Reaches, HasQueueRoom, IsSeed, IsCertifiedFrom};
 
 use trust_types::{AccountNo, Caps, Cert, CertGraph, Level};
 
@@ -14,10 +14,10 @@ use trust_types::{AccountNo, Caps, Cert, CertGraph, Level};
 fn reach(account: AccountNo, capacity: u32, out: &mut [u32], queue: &mut Vec<AccountNo>)
     requires within { account < length out.old }
     requires some { 0 < capacity }
-    requires room { HasRoom out.old queue.old }
+    requires room { HasQueueRoom out.old queue.old }
     ensures reached { Reaches (λ b. b ≡ account) capacity
         out.old queue.old.items out.new queue.new.items }
-    ensures room { HasRoom out.new queue.new }
+    ensures room { HasQueueRoom out.new queue.new }
     ensures reserved { vec_capacity queue.new ≡ vec_capacity queue.old }
 {
     if out[account.index()] == 0 {
@@ -30,13 +30,13 @@ fn reach(account: AccountNo, capacity: u32, out: &mut [u32], queue: &mut Vec<Acc
 fn follow(cert: &Cert, level: Level, capacity: u32, out: &mut [u32], queue: &mut Vec<AccountNo>)
     requires within { cert.now.to < length out.old }
     requires some { 0 < capacity }
-    requires room { HasRoom out.old queue.old }
+    requires room { HasQueueRoom out.old queue.old }
     ensures reached { Reaches (λ b. (b ≡ cert.now.to) × (rank level ≤ rank cert.now.level)) capacity
         out.old queue.old.items out.new queue.new.items }
-    ensures room { HasRoom out.new queue.new }
+    ensures room { HasQueueRoom out.new queue.new }
     ensures reserved { vec_capacity queue.new ≡ vec_capacity queue.old }
 {
-    if cert.level >= level {
+    if cert.is_edge_at(level) {
         reach(cert.to, capacity, out, queue);
     }
 }
@@ -52,10 +52,10 @@ fn reach_seeds<G: CertGraph>(
     requires accounts { accounts ≡ (G.certificates graph.now).accounts }
     requires places { length out.old ≡ (G.certificates graph.now).accounts }
     requires some { 0 < capacity }
-    requires room { HasRoom out.old queue.old }
+    requires room { HasQueueRoom out.old queue.old }
     ensures reached { Reaches (IsSeed (G.certificates graph.now)) capacity
         out.old queue.old.items out.new queue.new.items }
-    ensures room { HasRoom out.new queue.new }
+    ensures room { HasQueueRoom out.new queue.new }
     ensures reserved { vec_capacity queue.new ≡ vec_capacity queue.old }
 {
     for number in 0..accounts {
@@ -80,10 +80,10 @@ fn expand<G: CertGraph>(
     requires account { account < (G.certificates graph.now).accounts }
     requires places { length out.old ≡ (G.certificates graph.now).accounts }
     requires some { 0 < capacity }
-    requires room { HasRoom out.old queue.old }
+    requires room { HasQueueRoom out.old queue.old }
     ensures reached { Reaches (HasEdge (G.certificates graph.now) level (Account account)) capacity
         out.old queue.old.items out.new queue.new.items }
-    ensures room { HasRoom out.new queue.new }
+    ensures room { HasQueueRoom out.new queue.new }
     ensures reserved { vec_capacity queue.new ≡ vec_capacity queue.old }
 {
     for i in 0..graph.degree(account) {
@@ -108,10 +108,10 @@ fn expand_layer<G: CertGraph>(
         slice_index queue.old.items i < (G.certificates graph.now).accounts }
     requires places { length out.old ≡ (G.certificates graph.now).accounts }
     requires some { 0 < capacity }
-    requires room { HasRoom out.old queue.old }
+    requires room { HasQueueRoom out.old queue.old }
     ensures reached { Reaches (IsCertifiedFrom (G.certificates graph.now) level queue.old.items start) capacity
         out.old queue.old.items out.new queue.new.items }
-    ensures room { HasRoom out.new queue.new }
+    ensures room { HasQueueRoom out.new queue.new }
     ensures reserved { vec_capacity queue.new ≡ vec_capacity queue.old }
 {
     for at in start..queue.len() {
@@ -132,7 +132,7 @@ pub fn search<G: CertGraph>(
     requires places { length out.old ≡ (G.certificates graph.now).accounts }
     requires unseen { (b : ℕ) → slice_index out.old b ≡ 0 }
     requires empty { queue.old.items ≡ [] }
-    requires room { HasRoom out.old queue.old }
+    requires room { HasQueueRoom out.old queue.old }
     ensures capacities { AreCapacities (G.certificates graph.now) level caps.now (cap_by (entry caps.now 0) out.new) }
     ensures reserved { vec_capacity queue.new ≡ vec_capacity queue.old }
 {

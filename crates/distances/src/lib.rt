@@ -2,8 +2,6 @@
 #![tactic(auto)]
 
 mod layers;
-#[cfg(test)]
-mod tests;
 
 ghost use Rattle.std.specs.Prelude.{ℕ, ◌≡◌, ◌≤◌, length, vec_capacity, IfOk};
 ghost use Rattle.trust_types.specs.Levels.{IsGrade};

@@ -12,9 +12,8 @@ use std::marker::Brand;
 use std::sync::Arc;
 use std::sync::ledger::{Blank, Ledger};
 use std::test::Fail;
-use trust_types::{
-    AccountNo, Caps, Cert, CertGraph, Level, Name, NameIndex, NoMemory, Node, Side, Steps,
-};
+use name_index::NameIndex;
+use trust_types::{AccountNo, Caps, Cert, CertGraph, Level, Name, NoMemory, Node, Side, Steps};
 
 /// Who certifies whom.
 #[derive(Clone, Copy, Debug)]

@@ -3,7 +3,7 @@ use Rattle.std.specs.Prelude.{ℕ, ◌≡◌, List, length}
 use Rattle.trust_types.specs.declared.graphs.Cert.{Cert}
 use Rattle.trust_types.specs.Graph.{Certificates}
 use Rattle.trust_types.specs.Certs.{IsMadeOf}
-use Rattle.trust_types.specs.Layout.{Rows, certificates as certificates_of}
+use Rattle.trust_types.specs.Layout.{Rows, row_certificates as certificates_of}
 
 -- The number of the revision, the capacity table, the accounts' names by number, and the rows of certificates.
 pub record Revision : Type 0 where

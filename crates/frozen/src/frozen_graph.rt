@@ -2,13 +2,16 @@ ghost use Rattle.std.specs.Prelude.{◌≡◌, ◌<◌, ◌≤◌, ℕ, length, 
 ghost use Rattle.trust_types.specs.Certs.{CanStand};
 ghost use Rattle.trust_types.specs.NameLists.{AreApart, number_of};
 ghost use Rattle.trust_types.specs.Sum.{sum_below};
-ghost use Rattle.trust_types.specs.Layout.{certificates as certificates_of, degree};
+ghost use Rattle.trust_types.specs.Layout.{row_certificates as certificates_of, degree};
 ghost use Rattle.frozen.specs.Revision.{Freezes, certificates};
 
+use name_index::NameIndex;
 use std::alloc::Global;
 use std::marker::Model;
 use std::sync::Arc;
-use trust_types::{AccountNo, Caps, Cert, CertGraph, CertList, Name, NameIndex, NoMemory};
+use trust_types::{
+    AccountNo, Caps, Cert, CertGraph, CertList, MOST_ACCOUNTS, MOST_CERTS, Name, NoMemory,
+};
 
 /// One revision of a site: its accounts, seeds and standing certificates, with the capacity table. It never changes,
 /// and is shared.
@@ -43,15 +46,32 @@ impl Frozen {
         seeds: Vec<AccountNo>,
         certs: Vec<Cert>,
     ) -> Result<Arc<Frozen>, NoMemory>
-        requires few { vec_len names ≤ 100000 }
+        requires few { vec_len names ≤ MOST_ACCOUNTS }
         requires apart { AreApart names.items }
         requires seeds { All (λ a. a < vec_len names) seeds.items }
         requires certs { CanStand (vec_len names) certs.items }
         ensures { IfOk result (λ f. Freezes f.value revision caps names.items seeds.items certs.items) }
     {
-        let accounts = names.len() as u32;
-        let graph = CertList::of(alloc, accounts, seeds, certs)?;
         let names = NameIndex::of(alloc, names)?;
+        Frozen::of_index(alloc, revision, caps, names, seeds, certs)
+    }
+
+    /// Freezes the same where the names are indexed already. It looks at each seed and certificate once.
+    pub fn of_index(
+        alloc: Global,
+        revision: u32,
+        caps: Caps,
+        names: NameIndex,
+        seeds: Vec<AccountNo>,
+        certs: Vec<Cert>,
+    ) -> Result<Arc<Frozen>, NoMemory>
+        requires few { length names ≤ MOST_ACCOUNTS }
+        requires seeds { All (λ a. a < length names) seeds.items }
+        requires certs { CanStand (length names) certs.items }
+        ensures { IfOk result (λ f. Freezes f.value revision caps names seeds.items certs.items) }
+    {
+        let accounts = names.count() as u32;
+        let graph = CertList::of(alloc, accounts, seeds, certs)?;
         Ok(Arc::new(
             alloc,
             Frozen {
@@ -100,11 +120,11 @@ impl Frozen {
         self.names.find(name)
     }
 
-    /// How many certificates stand, of all that the accounts give. There are at most 2,000,000.
+    /// How many certificates stand, of all that the accounts give. There are at most [`MOST_CERTS`].
     pub fn certs(&self) -> u32
         ensures value { result ≡ length self.now.rows.takers }
         ensures sum { result ≡ sum_below (certificates self.now).accounts (degree self.now.rows) }
-        ensures few { result ≤ 2000000 }
+        ensures few { result ≤ MOST_CERTS }
     {
         self.graph.certs()
     }
@@ -122,12 +142,12 @@ impl CertGraph for Frozen {
 
     ghost cert_of = { λ r. given r.rows };
 
-    /// At most 100,000.
+    /// At most [`MOST_ACCOUNTS`].
     fn accounts(&self) -> u32
         ensures value { result ≡ (certificates self.now).accounts }
         ensures readers { GivesEachOnce (certificates self.now) (degree self.now.rows) (given self.now.rows) }
         ensures outside { (a b : ℕ) → result ≤ a → (certificates self.now).standing a b ≡ Observer }
-        ensures few { result ≤ 100000 }
+        ensures few { result ≤ MOST_ACCOUNTS }
     {
         self.graph.accounts()
     }

@@ -4,6 +4,3 @@
 mod frozen_graph;
 
 pub use frozen_graph::Frozen;
-
-#[cfg(test)]
-mod tests;

@@ -8,6 +8,3 @@ mod publications;
 pub use candidates::Candidate;
 pub use level_rosters::LevelRoster;
 pub use publications::Publication;
-
-#[cfg(test)]
-mod tests;

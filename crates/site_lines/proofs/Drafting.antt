@@ -10,7 +10,7 @@ use Rattle.std.proofs.lemmas.Option.{cond_some}
 use Rattle.std.proofs.Math.Bool.{or-true, or-false}
 use Rattle.trust_types.specs.declared.graphs.Cert.{Cert}
 use Rattle.trust_types.specs.declared.records.Record.{Record}
-use Rattle.trust_types.specs.Kept.{accounts, is_seed, certs_of, names_seed, cert_of, name_of}
+use Rattle.trust_types.specs.Kept.{accounts, is_seed, certs_of, names_seed, cert_of, joined_name}
 use Rattle.trust_types.specs.NameLists.{number_of}
 use Rattle.cert_log.specs.Log.{IsLog}
 use Rattle.cert_log.specs.Standing.{IsBetween}
@@ -60,7 +60,7 @@ pub draft-join : (d new : SiteDraft) (k : List Record) (word name : List ℕ) �
     → new.names ≡ d.names ++ name ∷ [] → new.seeds.items ≡ d.seeds.items ++ false ∷ [] → new.certs ≡ d.certs → new.giver ≡ d.giver → nat_le 100000 (length (accounts k)) ≡ false
     → IsSiteDraft new (k ++ join word ∷ [])
 draft-join d new k w name is e ne fe ce ge few =
-    let acc : accounts (k ++ join w ∷ []) ≡ accounts k ++ w ∷ [] = filter_map-append name_of k (join w ∷ []) in
+    let acc : accounts (k ++ join w ∷ []) ≡ accounts k ++ w ∷ [] = filter_map-append joined_name k (join w ∷ []) in
     let more : length (accounts (k ++ join w ∷ [])) ≡ length (accounts k) + 1 = ap length acc ∙ length_push (accounts k) w in
     let less : length (accounts k) < 100000 = grind arith in
     let given : certs_of (k ++ join w ∷ []) ≡ certs_of k = filter_map-append cert_of k (join w ∷ []) ∙ append-nil (certs_of k) in
@@ -81,7 +81,7 @@ set-is xs i a false l e = let other : a ≢ i = grind arith in rw (get_or-set_ot
 pub draft-seed : (d new : SiteDraft) (k : List Record) (i : ℕ) → IsSiteDraft d k → i < length (accounts k)
     → new.names ≡ d.names → new.seeds.items ≡ set d.seeds.items i true → new.certs ≡ d.certs → new.giver ≡ d.giver → IsSiteDraft new (k ++ seed i ∷ [])
 draft-seed d new k i is l ne fe ce ge =
-    let acc : accounts (k ++ seed i ∷ []) ≡ accounts k = filter_map-append name_of k (seed i ∷ []) ∙ append-nil (accounts k) in
+    let acc : accounts (k ++ seed i ∷ []) ≡ accounts k = filter_map-append joined_name k (seed i ∷ []) ∙ append-nil (accounts k) in
     let given : certs_of (k ++ seed i ∷ []) ≡ certs_of k = filter_map-append cert_of k (seed i ∷ []) ∙ append-nil (certs_of k) in
     let inside : i < length d.seeds.items = rw is.flags l in
     record {
@@ -101,7 +101,7 @@ given-push k c = filter_map-append cert_of k (cert c.from c.to c.level ∷ [])
 pub draft-cert : (d new : SiteDraft) (k : List Record) (c : Cert) → IsSiteDraft d k → IsBetween (length (accounts k)) c
     → new.names ≡ d.names → new.seeds.items ≡ d.seeds.items → IsLog new.certs (certs_of k ++ c ∷ []) → new.giver ≡ d.giver → IsSiteDraft new (k ++ cert c.from c.to c.level ∷ [])
 draft-cert d new k c is between ne fe ce ge =
-    let acc : accounts (k ++ cert c.from c.to c.level ∷ []) ≡ accounts k = filter_map-append name_of k (cert c.from c.to c.level ∷ []) ∙ append-nil (accounts k) in
+    let acc : accounts (k ++ cert c.from c.to c.level ∷ []) ≡ accounts k = filter_map-append joined_name k (cert c.from c.to c.level ∷ []) ∙ append-nil (accounts k) in
     record {
       named = ne ∙ is.named ∙ sym acc;
       few = rw acc is.few;

@@ -9,7 +9,7 @@ use Rattle.trust_types.specs.declared.records.Record.{Record}
 use Rattle.trust_types.specs.Levels.{IsGrade, is_grade}
 use Rattle.trust_types.specs.Graph.{Certificates}
 use Rattle.trust_types.specs.Certs.{IsMadeOf}
-use Rattle.trust_types.specs.Kept.{accounts, is_seed, standing, certificates}
+use Rattle.trust_types.specs.Kept.{accounts, is_seed, standing, kept_certificates}
 use Rattle.site_lines.specs.Drafts.{ArePartsOf}
 use Rattle.site_lines.specs.declared.parts.SiteParts.{SiteParts}
 
@@ -43,7 +43,7 @@ parts_standing k parts g are made a b = same_level_by (g.standing a b) (standing
 pub parts_seeds : (k : List Record) (parts : SiteParts) (g : Certificates) → ArePartsOf k parts → IsMadeOf g (length (accounts k)) parts.seeds.items parts.certs.items → (a : ℕ) → g.is_seed a ≡ is_seed k a
 parts_seeds k parts g are made a = same_test (g.is_seed a) (is_seed k a) (λ is. (are.seeded a).0 ((made.seeded a).0 is)) (λ is. (made.seeded a).1 ((are.seeded a).1 is))
 
-pub parts_graph : (k : List Record) (parts : SiteParts) (g : Certificates) → ArePartsOf k parts → IsMadeOf g (length (accounts k)) parts.seeds.items parts.certs.items → g ≡ certificates k
+pub parts_graph : (k : List Record) (parts : SiteParts) (g : Certificates) → ArePartsOf k parts → IsMadeOf g (length (accounts k)) parts.seeds.items parts.certs.items → g ≡ kept_certificates k
 parts_graph k parts g are made =
     ap (λ n. record { accounts = n; is_seed = g.is_seed; standing = g.standing }) made.size
     ∙ ap (λ seeds. record { accounts = length (accounts k); is_seed = seeds; standing = g.standing }) (fun_ext (parts_seeds k parts g are made))

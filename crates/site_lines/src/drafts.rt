@@ -7,7 +7,8 @@ use crate::seeds::mark;
 use cert_log::CertLog;
 use std::alloc::Global;
 use text_lines::{LineFault, TextKind, Words, is_line};
-use trust_types::{AccountNo, Cert, Level, Name, NameIndex, NoMemory};
+use name_index::NameIndex;
+use trust_types::{AccountNo, Cert, Level, Name, NoMemory};
 
 /// The most accounts.
 const MOST_ACCOUNTS: usize = 100_000;

@@ -15,8 +15,9 @@ use Rattle.text_lines.specs.Words.{is_word}
 use Rattle.text_lines.specs.Steps.{or_fault}
 use Rattle.text_lines.specs.Reading.{reading}
 use Rattle.text_lines.proofs.Joining.{words-join, is_line-join, reading-append, reading-each}
-use Rattle.claim_lines.specs.Claim.{Claim, nothing, is_node, node_of, units_of, is_of_pair, is_placed, flow_line, placed_node, pass_line, full_line, claim_form, claim_line}
-use Rattle.cut_check.specs.Line.{name_of, node_name}
+use Rattle.claim_lines.specs.Claim.{Claim, nothing, units_of, is_of_pair, is_placed, flow_line, placed_node, pass_line, full_line, claim_form, claim_line}
+use Rattle.trust_types.specs.NodeWords.{is_node, node_of}
+use Rattle.trust_types.specs.NodeWords.{name_of, node_name}
 use Rattle.roster_form.specs.LevelRosters.{AreAmong}
 use Rattle.site_text.specs.Canonical.{flow_words, pass_words, full_words}
 use Rattle.site_text.proofs.Spelling.{AreNames, name_at, number_of-name, is_node-name, node_of-name, units_of-decimal}

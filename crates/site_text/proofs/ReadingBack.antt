@@ -17,7 +17,7 @@ use Rattle.trust_types.specs.declared.graphs.Cert.{Cert}
 use Rattle.trust_types.specs.Levels.{IsGrade}
 use Rattle.trust_types.specs.Certs.{CanStand}
 use Rattle.trust_types.specs.Tables.{IsTable}
-use Rattle.trust_types.specs.Kept.{accounts, certificates}
+use Rattle.trust_types.specs.Kept.{accounts, kept_certificates}
 use Rattle.trust_types.specs.Lines.{sides_of, same_node}
 use Rattle.trust_types.specs.Proven.{Lists}
 use Rattle.text_lines.specs.Words.{lines}
@@ -203,7 +203,7 @@ proof-canonical v level r text is c =
 pub read_back : (v : View) (level : Level) (r : Lists) (text : List ℕ) → IsWritten v level r → IsCanonical v level r text → IsReadAs v level r text
 read_back v level r text is c =
     let names : accounts (records v.names c.seeds c.certs) ≡ v.names = accounts-records v.names c.seeds c.certs in
-    let graph : certificates (records v.names c.seeds c.certs) ≡ v.graph = certificates-records v.graph v.names c.seeds c.certs c.graph in
+    let graph : kept_certificates (records v.names c.seeds c.certs) ≡ v.graph = certificates-records v.graph v.names c.seeds c.certs c.graph in
     record {
       claimed = written v.table v.names c.seeds c.certs level r;
       read = proof-canonical v level r text is c;

@@ -13,7 +13,7 @@ use Rattle.trust_types.specs.declared.records.Record.{Record}
 use Rattle.trust_types.specs.Levels.{IsGrade}
 use Rattle.trust_types.specs.Graph.{Certificates}
 use Rattle.trust_types.specs.Certs.{IsMadeOf}
-use Rattle.trust_types.specs.Kept.{accounts, name_of, is_seed, names_seed, certs_of, cert_of, certificates, standing_among, level_after, is_of_pair, standing_count, stands, standing}
+use Rattle.trust_types.specs.Kept.{accounts, joined_name, is_seed, names_seed, certs_of, cert_of, kept_certificates, standing_among, level_after, is_of_pair, standing_count, stands, standing}
 use Rattle.site_lines.specs.Site.{join, seed, cert}
 
 abbrev pub cert_record : Cert → Record
@@ -37,8 +37,8 @@ accounts-certs (c ∷ certs) = accounts-certs certs
 
 pub accounts-records : (names : List (List ℕ)) (seeds : List ℕ) (certs : List Cert) → accounts (records names seeds certs) ≡ names
 accounts-records names seeds certs =
-    filter_map-append name_of (map join names ++ map seed seeds) (map cert_record certs)
-    ∙ ap (λ x. x ++ accounts (map cert_record certs)) (filter_map-append name_of (map join names) (map seed seeds))
+    filter_map-append joined_name (map join names ++ map seed seeds) (map cert_record certs)
+    ∙ ap (λ x. x ++ accounts (map cert_record certs)) (filter_map-append joined_name (map join names) (map seed seeds))
     ∙ rw (accounts-joins names, accounts-seeds seeds, accounts-certs certs) (append-nil (names ++ []) ∙ append-nil names)
 
 certs-joins : (names : List (List ℕ)) → certs_of (map join names) ≡ []
@@ -153,7 +153,7 @@ standing_is g n seeds certs made a b = elim (fold_cases certs a b Observer) [
 
 -- What the records say of the site is the graph that was written.
 pub certificates-records : (g : Certificates) (names : List (List ℕ)) (seeds : List ℕ) (certs : List Cert) →
-    IsMadeOf g (length names) seeds certs → certificates (records names seeds certs) ≡ g
+    IsMadeOf g (length names) seeds certs → kept_certificates (records names seeds certs) ≡ g
 certificates-records g names seeds certs made =
     let size : length (accounts (records names seeds certs)) ≡ g.accounts = ap length (accounts-records names seeds certs) ∙ sym made.size in
     let seeded : (a : ℕ) → is_seed (records names seeds certs) a ≡ g.is_seed a = λ a.

@@ -19,7 +19,7 @@ use Rattle.text_lines.specs.Words.{is_word}
 use Rattle.text_lines.specs.Reading.{reading}
 use Rattle.text_lines.proofs.Joining.{words-join, is_line-join, reading-append, reading-each}
 use Rattle.site_lines.specs.Site.{join, seed, cert, account_line, seed_line, cert_line, form, site_line}
-use Rattle.cut_check.specs.Line.{name_of}
+use Rattle.trust_types.specs.NodeWords.{name_of}
 use Rattle.site_text.specs.Canonical.{account_words, seed_words, cert_words}
 use Rattle.site_text.proofs.Spelling.{AreNames, name_at, number_of-name, level_of-name}
 use Rattle.site_text.proofs.Wording.{spaced, account-worded, seed-worded, cert-worded}

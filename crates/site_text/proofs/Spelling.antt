@@ -16,8 +16,9 @@ use Rattle.trust_types.specs.Lines.{place}
 use Rattle.text_lines.specs.Words.{is_word}
 use Rattle.text_lines.proofs.Decimals.{number-decimal}
 use Rattle.text_lines.proofs.Spelled.{is_word-name}
-use Rattle.claim_lines.specs.Claim.{is_dash, is_node, node_of, units_of}
-use Rattle.cut_check.specs.Line.{name_of, node_name}
+use Rattle.claim_lines.specs.Claim.{units_of}
+use Rattle.trust_types.specs.NodeWords.{is_dash, is_node, node_of}
+use Rattle.trust_types.specs.NodeWords.{name_of, node_name}
 
 pub level_of-name : (level : Level) → level_of (level_name level) ≡ Some level
 level_of-name Observer = refl

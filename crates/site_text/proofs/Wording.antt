@@ -14,7 +14,7 @@ use Rattle.trust_types.specs.Certs.{IsCertAmong}
 use Rattle.text_lines.specs.Words.{is_word}
 use Rattle.text_lines.proofs.Decimals.{is_word-decimal}
 use Rattle.text_lines.proofs.Joining.{and_true}
-use Rattle.cut_check.specs.Line.{name_of, node_name}
+use Rattle.trust_types.specs.NodeWords.{name_of, node_name}
 use Rattle.site_text.specs.Canonical.{caps_words, account_words, seed_words, cert_words, level_words, flow_words, pass_words, full_words}
 use Rattle.text_lines.proofs.Spelled.{is_word-name, is_word-level}
 use Rattle.site_text.proofs.Spelling.{AreNames, name_at, node_word}

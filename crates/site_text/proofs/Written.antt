@@ -9,7 +9,7 @@ use Rattle.std.proofs.Math.Seq.{take-length}
 use Rattle.trust_types.specs.declared.graphs.Cert.{Cert}
 use Rattle.trust_types.specs.Graph.{Certificates}
 use Rattle.trust_types.specs.Names.{IsName}
-use Rattle.cut_check.specs.Line.{name_of}
+use Rattle.trust_types.specs.NodeWords.{name_of}
 use Rattle.site_text.specs.Canonical.{line, caps_words, seed_words, cert_words}
 use Rattle.site_text.specs.Writing.{below, seeds_below, first_given, certs_below, lines_for}
 

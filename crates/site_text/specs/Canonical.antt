@@ -9,7 +9,7 @@ use Rattle.trust_types.specs.declared.flows.FlowLine.{FlowLine}
 use Rattle.trust_types.specs.Levels.{level_name}
 use Rattle.trust_types.specs.Certs.{CanStand, IsMadeOf}
 use Rattle.trust_types.specs.Proven.{Lists, IsProven}
-use Rattle.cut_check.specs.Line.{name_of, node_name}
+use Rattle.trust_types.specs.NodeWords.{name_of, node_name}
 use Rattle.site_text.specs.Site.{ProofText, proof}
 use Rattle.site_text.specs.View.{View, of_text}
 

@@ -1,8 +1,8 @@
 -- What is the same of a site, however it is kept: as a text's lines, as a frozen graph, or in a proof.
 use Rattle.std.specs.Prelude.{ℕ, ◌≡◌, List, length}
 use Rattle.trust_types.specs.Graph.{Certificates}
-use Rattle.trust_types.specs.Kept.{accounts, certificates}
-use Rattle.trust_types.specs.Layout.{certificates as certificates_in}
+use Rattle.trust_types.specs.Kept.{accounts, kept_certificates}
+use Rattle.trust_types.specs.Layout.{row_certificates as certificates_in}
 use Rattle.trust_types.specs.Lines.{flow_of}
 use Rattle.frozen.specs.Revision.{Revision, certificates as certificates_of}
 use Rattle.cut_check.specs.declared.proofs.Proof.{Proof}
@@ -15,7 +15,7 @@ pub record View : Type 0 where
   pub graph : Certificates
 
 abbrev pub of_text : SiteText → View
-of_text s = record { table = s.table; names = accounts s.records; graph = certificates s.records }
+of_text s = record { table = s.table; names = accounts s.records; graph = kept_certificates s.records }
 
 abbrev pub of_frozen : Revision → View
 of_frozen f = record { table = f.caps; names = f.names; graph = certificates_of f }

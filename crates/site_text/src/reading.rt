@@ -23,7 +23,8 @@ use site_lines::{SiteDraft, SiteParts, read_table};
 use std::alloc::Global;
 use std::sync::Arc;
 use text_lines::{Lines, TextFault, TextKind};
-use trust_types::{Caps, CertList, Level, NameIndex, NoMemory};
+use name_index::NameIndex;
+use trust_types::{Caps, CertList, Level, NoMemory};
 
 /// The lines of a site, read, and the `level` line that ended them, where one did.
 #[derive(Drop)]

@@ -8,7 +8,7 @@ ghost use Rattle.trust_types.specs.NameLists.{AreApart};
 ghost use Rattle.trust_types.specs.Rows.{GivesEachOnce};
 ghost use Rattle.frozen.specs.Revision.{certificates};
 ghost use Rattle.roster_form.specs.LevelRosters.{lists_of, AreAmong};
-ghost use Rattle.cut_check.specs.Line.{name_of, node_name};
+ghost use Rattle.trust_types.specs.NodeWords.{name_of, node_name};
 ghost use Rattle.site_text.specs.View.{of_frozen};
 ghost use Rattle.site_text.specs.Canonical.{line, caps_words, account_words, seed_words, cert_words, level_words, flow_words, IsCanonical, IsReadAs};
 ghost use Rattle.site_text.specs.Writing.{seeds_below, first_given, certs_below, lines_for};
@@ -17,7 +17,8 @@ use frozen::Frozen;
 use itoa::Buffer;
 use roster_form::LevelRoster;
 use std::alloc::Global;
-use trust_types::{AccountNo, Cert, CertGraph, FlowLine, Level, NameIndex, NoMemory, Node};
+use name_index::NameIndex;
+use trust_types::{AccountNo, Cert, CertGraph, FlowLine, Level, NoMemory, Node};
 
 /// About as many bytes as the line of an account or of a certificate has.
 const LINE: usize = 32;

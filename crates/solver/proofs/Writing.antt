@@ -11,7 +11,7 @@ use Rattle.trust_types.specs.declared.flows.FlowLine.{FlowLine}
 use Rattle.trust_types.specs.Flow.{Flow, is_served, units_in, units_out}
 use Rattle.trust_types.specs.Roster.{ServesConduits}
 use Rattle.trust_types.specs.Rows.{GivesEachOnce}
-use Rattle.trust_types.specs.Layout.{Rows, accounts, certificates, degree, taker, given}
+use Rattle.trust_types.specs.Layout.{Rows, accounts, row_certificates, degree, taker, given}
 use Rattle.trust_types.specs.Lines.{place, same_node, flow_of, is_before}
 use Rattle.trust_types.proofs.Sums.{part-le-sum_below}
 use Rattle.solver.proofs.Listing.{same_place}
@@ -143,7 +143,7 @@ row_none r f a lines goes is = record {
 nothing : (n : ℕ) → (0 < n → ⊥) → n ≡ 0
 nothing n never = elim (cases_lt 0 n) [ inl some ↦ absurd (never some) | inr none ↦ omega arith ]
 
-pub row_more : (r : Rows) (f : Flow) (a i : ℕ) (lines : List FlowLine) (l : FlowLine) → GivesEachOnce (certificates r) (degree r) (given r) → a < accounts r → i < degree r a →
+pub row_more : (r : Rows) (f : Flow) (a i : ℕ) (lines : List FlowLine) (l : FlowLine) → GivesEachOnce (row_certificates r) (degree r) (given r) → a < accounts r → i < degree r a →
     IsRowWritten r f a i lines → l.from ≡ Account a → l.to ≡ taker r a i → l.units ≡ f (Account a) (taker r a i) → IsRowWritten r f a (i + 1) (with_line lines l)
 row_more r f a i lines l readers account within is from_is to_is units_is =
     let t : ℕ = taker r a i in
@@ -172,7 +172,7 @@ pub row_all : (r : Rows) (f : Flow) (a : ℕ) (lines : List FlowLine) → IsRowW
 row_all r f a lines is = written_row f (Account a) is.b lines is.written (λ d from. nothing (f (Account a) d) (λ some. let h = is.rest d from some in omega (arith, h.1, h.2)))
 
 -- an account that isn't served passes nothing on
-pub row_unserved : (r : Rows) (f : Flow) (a : ℕ) (lines : List FlowLine) → GivesEachOnce (certificates r) (degree r) (given r) → GoesAlong r f → ServesConduits (accounts r) f → a < accounts r →
+pub row_unserved : (r : Rows) (f : Flow) (a : ℕ) (lines : List FlowLine) → GivesEachOnce (row_certificates r) (degree r) (given r) → GoesAlong r f → ServesConduits (accounts r) f → a < accounts r →
     is_served (accounts r) f a ≡ false → IsWritten f (a + 1) 0 lines → IsWritten f (a + 1 + 1) 0 lines
 row_unserved r f a lines readers goes conduits account unserved is = written_row f (Account a) 0 lines is (λ d from. nothing (f (Account a) d) (λ some.
     let along = goes.certs a d some in

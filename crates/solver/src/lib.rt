@@ -5,6 +5,3 @@ mod reading;
 mod solving;
 
 pub use solving::{solve_alone, solve_one};
-
-#[cfg(test)]
-mod tests;

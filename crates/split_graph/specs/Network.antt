@@ -7,7 +7,7 @@ use Rattle.trust_types.specs.Sum.{sum_below}
 use Rattle.trust_types.specs.Levels.{IsGrade}
 use Rattle.trust_types.specs.Tables.{IsTable}
 use Rattle.trust_types.specs.Rows.{GivesEachOnce}
-use Rattle.trust_types.specs.Layout.{Rows, accounts, degree, taker, given, certificates as certificates_of}
+use Rattle.trust_types.specs.Layout.{Rows, accounts, degree, taker, given, row_certificates as certificates_of}
 use Rattle.frozen.specs.Revision.{Revision, certificates}
 use Rattle.split_graph.specs.Split.{first_half, second_half, supersink, IsNode}
 use Rattle.split_graph.specs.Arcs.{Arcs, AreArcs, IsSameGraph, LeadsTo, first_of, between}

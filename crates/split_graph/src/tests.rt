@@ -9,7 +9,8 @@ use frozen::Frozen;
 use std::alloc::Global;
 use std::sync::Arc;
 use std::test::Fail;
-use trust_types::{AccountNo, Caps, Cert, CertGraph, Level, Name, NameIndex, Node};
+use name_index::NameIndex;
+use trust_types::{AccountNo, Caps, Cert, CertGraph, Level, Name, Node};
 
 /// A certificate of account 0.
 fn given(to: u32, level: Level) -> Cert

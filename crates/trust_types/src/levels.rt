@@ -54,31 +54,3 @@ impl fmt::Display for Level {
         f.pad(self.name())
     }
 }
-
-#[cfg(test)]
-mod tests {
-    use super::*;
-    use std::test::Fail;
-
-    #[test]
-    fn reads_the_four_spellings_and_no_other(rt: HostRuntime) -> Result<(), Fail> {
-        let rows: [(&[u8], Option<Level>); 8] = [
-            (b"Observer", Some(Level::Observer)),
-            (b"Apprentice", Some(Level::Apprentice)),
-            (b"Journeyer", Some(Level::Journeyer)),
-            (b"Master", Some(Level::Master)),
-            (b"master", None),
-            (b"Masters", None),
-            (b"Maste", None),
-            (b"", None),
-        ];
-        for (word, level) in rows {
-            assert_eq!(rt; Level::of_name(word), level);
-            if let Some(level) = level {
-                assert_eq!(rt; level.to_string(rt.alloc())?.as_bytes(), word);
-            }
-        }
-        assert!(rt; !Level::Observer.is_grade() && Level::Apprentice.is_grade());
-        Ok(())
-    }
-}

@@ -5,11 +5,10 @@ mod accounts;
 mod cert_lists;
 mod flows;
 mod graphs;
-mod key_table;
 mod laws;
 mod levels;
+mod limits;
 mod memory;
-mod name_index;
 mod names;
 mod records;
 mod steps;
@@ -25,13 +24,10 @@ pub use laws::{
     total_at_most_cut, total_is_root_units,
 };
 pub use levels::Level;
+pub use limits::{MOST_ACCOUNTS, MOST_CERTS};
 pub use memory::NoMemory;
-pub use name_index::NameIndex;
 pub use names::Name;
 pub use records::{Record, Secret};
 pub use steps::Steps;
 pub use tables::{Caps, CapsFault};
 pub use texts::Text;
-
-#[cfg(test)]
-mod tests;

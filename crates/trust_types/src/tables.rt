@@ -49,7 +49,7 @@ impl Model for Caps {
 
     ghost Value = { List ℕ };
 
-    ghost use Rattle.trust_types.specs.Padded.{IsPadded, padded};
+    ghost use Rattle.trust_types.specs.inner.Padded.{IsPadded, padded};
     ghost use Rattle.trust_types.specs.Tables.{IsTable};
 
     ghost view = { λ a. take a.len a.entries };
@@ -145,39 +145,5 @@ impl Caps {
         ensures table { IsTable self.now }
     {
         &self.entries[..self.len]
-    }
-}
-
-#[cfg(test)]
-mod tests {
-    use super::*;
-
-    #[test]
-    fn names_the_first_fault(rt: HostRuntime) {
-        let faulty: [(&[u32], CapsFault); 7] = [
-            (&[], CapsFault::Empty),
-            (&[0; 17], CapsFault::Long),
-            (&[2_001, 0, 3], CapsFault::Zero),
-            (&[1, 2_001, 3], CapsFault::Large),
-            (&[2, 3, 1], CapsFault::Rises),
-            (&[1, 2], CapsFault::Rises),
-            (&[3, 2], CapsFault::EndNotOne),
-        ];
-        for (entries, fault) in faulty {
-            assert_eq!(rt; Caps::read(entries), Err(fault));
-        }
-        let tables: [&[u32]; 3] = [&[1], &[2_000, 1], &[1; 16]];
-        for entries in tables {
-            assert!(rt; Caps::read(entries).is_ok());
-        }
-    }
-
-    #[test]
-    fn ends_with_its_last_entry(rt: HostRuntime) {
-        let caps = Caps::standard();
-        for (distance, capacity) in [(0, 800), (1, 200), (5, 2), (6, 1), (7, 1), (u32::MAX, 1)] {
-            assert_eq!(rt; caps.at(distance), capacity, "at {distance}");
-        }
-        assert!(rt; caps.entries() == [800, 200, 50, 12, 4, 2, 1].as_slice());
     }
 }

@@ -1,5 +1,5 @@
 use Rattle.std.proofs.Common.{◌≡◌, ◌∷◌, ◌++◌, take, flat_map}
-use Rattle.cut_check.specs.Line.{name_of}
+use Rattle.trust_types.specs.NodeWords.{name_of}
 use Rattle.commands.proofs.rosters.push_names.Given as goal
 
 abbrev pub invariant-loop-account : goal.invariant-loop-account

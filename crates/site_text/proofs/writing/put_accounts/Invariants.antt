@@ -1,6 +1,6 @@
 use Rattle.std.proofs.Common.{◌≡◌, ◌<◌, ℕ, ◌++◌, take}
 use Rattle.trust_types.specs.Names.{IsName}
-use Rattle.cut_check.specs.Line.{name_of}
+use Rattle.trust_types.specs.NodeWords.{name_of}
 use Rattle.site_text.specs.Canonical.{account_words}
 use Rattle.site_text.specs.Writing.{lines_for}
 use Rattle.site_text.proofs.writing.put_accounts.Given as goal

@@ -1,5 +1,5 @@
 use Rattle.std.proofs.Common.{◌≡◌, [], ◌∷◌, ◌++◌, take}
-use Rattle.cut_check.specs.Line.{node_name}
+use Rattle.trust_types.specs.NodeWords.{node_name}
 use Rattle.site_text.specs.Writing.{lines_for}
 use Rattle.site_text.proofs.writing.put_nodes.Given as goal
 

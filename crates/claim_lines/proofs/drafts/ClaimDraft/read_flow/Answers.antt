@@ -5,7 +5,7 @@ use Rattle.trust_types.specs.NameLists.{number_of}
 use Rattle.trust_types.specs.Lines.{place}
 use Rattle.pair_map.specs.Pairs.{IsSet}
 use Rattle.claim_lines.specs.Claim.{units_of, is_of_pair}
-use Rattle.cut_check.specs.Proof.{IsLineAmong}
+use Rattle.trust_types.specs.Lines.{IsLineAmong}
 use Rattle.claim_lines.proofs.Saying.{flow-bad_number, flow-bad_giver, flow-bad_taker, flow-no_giver, flow-no_taker, flow-twice, flow-ok}
 use Rattle.claim_lines.proofs.Drafting.{cond_none, cond_some, some_units_of, account_below, has_line, draft-flow}
 use Rattle.claim_lines.proofs.drafts.ClaimDraft.read_flow.Goals as goal

@@ -1,0 +1,3 @@
+mod SpreadKeys
+mod Buckets
+mod Indexing
