@@ -1,5 +1,5 @@
 -- The text of an audit passes the check.
-use Rattle.std.proofs.Common.{ℕ, ◌≡◌, List, ap, subst, ◌∙◌}
+use Rattle.std.proofs.Common.{ℕ, ◌≡◌, ◌≤◌, List, length, ap, subst, ◌∙◌}
 use Rattle.trust_types.specs.declared.levels.Level.{Level}
 use Rattle.trust_types.specs.declared.accounts.Node.{Node}
 use Rattle.trust_types.specs.Capacity.{AreCapacities}
@@ -17,6 +17,8 @@ use Rattle.cut_check.proofs.Passing.{proven_is_passed}
 use Rattle.site_text.specs.Site.{proof}
 use Rattle.site_text.specs.View.{View, of_proof, IsProofOf}
 use Rattle.site_text.specs.Canonical.{IsAudit, IsReadAs}
+use Rattle.commands.specs.Commands.{limit_of}
+use Rattle.commands.specs.declared.command.Command.TheVariants.{Check}
 use Rattle.commands.specs.declared.status.Status.TheVariants.{Done}
 use Rattle.commands.specs.declared.outcome.Answer.{Answer}
 use Rattle.commands.specs.Answers.{status_for, AnswersProof, IsJudged, IsAuditText}
@@ -59,5 +61,5 @@ told v level text audit answer answered =
     passed_as v level audit.lists text read p answer_is.verdict audit.proven judged.1 answer_is.judged in
     (answer_is.status ∙ ap status_for best, answer_is.text ∙ (λ i. verdict_line (names i) (best i)))
 
-pub audited : {level : Level} {v : View} {text : List ℕ} → IsAudit level v text → IsAuditText level v text
-audited {level} {v} {text} audit = record { audit = audit; passes = told v level text audit }
+pub audited : {level : Level} {v : View} {text : List ℕ} → IsAudit level v text → length text ≤ limit_of Check → IsAuditText level v text
+audited {level} {v} {text} audit within = record { audit = audit; within = within; passes = told v level text audit }

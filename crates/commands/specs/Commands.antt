@@ -3,6 +3,7 @@ use Rattle.std.specs.Prelude.{ℕ, List, [], ◌∷◌, Option, Some, None, opti
 use Rattle.std.specs.Str.{bytes_eq}
 use Rattle.trust_types.specs.declared.levels.Level.{Level}
 use Rattle.trust_types.specs.Levels.{level_of, is_grade, IsGrade}
+use Rattle.commands.specs.declared.command.TheConstants.{MOST_SITE_BYTES, MOST_PROOF_BYTES}
 use Rattle.commands.specs.declared.command.Command.{Command}
 use Rattle.commands.specs.declared.command.Command.TheVariants.{Check, Rosters, Audit}
 use Rattle.commands.specs.declared.command.Asked.{Asked}
@@ -31,9 +32,9 @@ command_of _ = None
 
 -- The most bytes of input that a command takes.
 abbrev pub limit_of : Command → ℕ
-limit_of Check = 268435456
-limit_of (Rosters asked) = 67108864
-limit_of (Audit level) = 67108864
+limit_of Check = MOST_PROOF_BYTES
+limit_of (Rosters asked) = MOST_SITE_BYTES
+limit_of (Audit level) = MOST_SITE_BYTES
 
 -- Only grades are asked for.
 abbrev pub AreGrades : Asked → Type 0

@@ -4,6 +4,12 @@ ghost use Rattle.commands.specs.Commands.{command_of, limit_of, grade_of, asked_
 
 use trust_types::Level;
 
+/// The most bytes of a site text that `rosters` and `audit` take.
+pub const MOST_SITE_BYTES: usize = 67_108_864;
+
+/// The most bytes of a proof text that `check` takes.
+pub const MOST_PROOF_BYTES: usize = 268_435_456;
+
 /// The levels whose rosters are asked for.
 #[derive(Clone, Copy, Debug, PartialEq, Eq)]
 pub enum Asked {
@@ -99,8 +105,8 @@ impl Command {
         ensures { result ≡ limit_of self }
     {
         match self {
-            Command::Check => 268_435_456,
-            Command::Rosters(_) | Command::Audit(_) => 67_108_864,
+            Command::Check => MOST_PROOF_BYTES,
+            Command::Rosters(_) | Command::Audit(_) => MOST_SITE_BYTES,
         }
     }
 }

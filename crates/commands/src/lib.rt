@@ -8,7 +8,7 @@ mod rosters;
 mod running;
 mod status;
 
-pub use command::{Asked, Command};
+pub use command::{Asked, Command, MOST_PROOF_BYTES, MOST_SITE_BYTES};
 pub use outcome::{Answer, Outcome};
 pub use running::run;
 pub use status::Status;

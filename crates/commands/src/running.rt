@@ -45,7 +45,7 @@ fn carry_out<S: Source>(alloc: Global, command: Command, source: &mut S) -> Outc
         Comes command before now result }
 {
     match read_to_end(alloc, source, command.limit()) {
-        Ok(bytes) => match answer(alloc, command, &bytes) {
+        Ok(bytes) => match answer(alloc, command, bytes) {
             Ok(answer) => Outcome::Answered(answer),
             Err(NoMemory) => Outcome::OutOfMemory,
         },

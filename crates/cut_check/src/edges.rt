@@ -215,7 +215,7 @@ fn first_taker_outside<G: CertGraph>(
 {
     for i in 0..graph.degree(giver) {
         let cert = graph.given(giver, i);
-        if reaches(cert.level, level) && is_outside(sides[cert.to.index()]) {
+        if cert.is_edge_at(level) && is_outside(sides[cert.to.index()]) {
             return Some(cert.to);
         }
     }

@@ -14,7 +14,7 @@ use Rattle.trust_types.specs.Names.{is_name, IsName}
 use Rattle.trust_types.specs.NameLists.{number_of}
 use Rattle.trust_types.specs.Certs.{CanStand, IsCertAmong}
 use Rattle.trust_types.specs.Kept.{accounts, is_seed, certs_of, standing_count}
-use Rattle.trust_types.proofs.Indexing.{not_found}
+use Rattle.name_index.proofs.Indexing.{not_found}
 use Rattle.text_lines.specs.Words.{is_word}
 use Rattle.text_lines.specs.Reading.{reading}
 use Rattle.text_lines.proofs.Joining.{words-join, is_line-join, reading-append, reading-each}

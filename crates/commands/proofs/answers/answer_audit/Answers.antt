@@ -11,6 +11,7 @@ use Rattle.commands.specs.declared.outcome.Answer.{Answer}
 use Rattle.commands.specs.Answers.{AnswersSite, IsAuditText}
 use Rattle.commands.proofs.Told.{audit_of}
 use Rattle.commands.proofs.Audited.{audited}
+use Rattle.commands.proofs.Fitting.{audit_fits}
 use Rattle.commands.proofs.answers.answer_audit.Goals as goal
 
 pub returns-in_ok-proof_text-in-Ok : goal.returns-in_ok-proof_text-in-Ok
@@ -29,6 +30,6 @@ returns-in_ok-proof_text-in-Ok c =
     subst (λ (l : Level). IsReadAs (of_frozen f) l r text) at
     (subst (λ (g : Revision). IsReadAs (of_frozen g) roster.level r text) c.deref-in-Ok.ensures c.in_ok-proof_text-in-Ok.ensures.readable) in
     let told : IsAuditText c.args.level (of_text read.0) text =
-    subst (λ (v : View). IsAuditText c.args.level v text) read.2.same (audited (audit_of f c.args.level r text sound canonical readable)) in
+    subst (λ (v : View). IsAuditText c.args.level v text) read.2.same (audited (audit_of f c.args.level r text sound canonical readable) (audit_fits f c.args.level r text c.requires.grade sound canonical)) in
     let answer : Answer = record { status = Done; text = c.in_ok-proof_text-in-Ok.field-0 } in
     subst (λ said. AnswersSite (IsAuditText c.args.level) said answer) (sym read.1) (refl, told)

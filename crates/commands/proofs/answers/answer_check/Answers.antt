@@ -7,5 +7,5 @@ use Rattle.commands.proofs.answers.answer_check.Goals as goal
 pub returns-in-Ok : goal.returns-in-Ok
 returns-in-Ok c =
     let read = c.in-Ok.ensures in
-    IfOk-weaker c.judge.result (IsJudged c.in-Ok.proof) (AnswersProof (proof c.args.bytes.now))
+    IfOk-weaker c.judge.result (IsJudged c.in-Ok.proof) (AnswersProof (proof c.args.bytes.items))
     (λ answer is. subst (λ (said : _). AnswersProof said answer) (sym read.1) (c.in-Ok.proof, read.2, is)) c.judge.ensures
