@@ -133,6 +133,10 @@ canonical f level r text told parts =
     let stand = can-stand (certificates f) (degree f.rows) (given f.rows) are in
     let made = made-of (certificates f) (degree f.rows) (given f.rows) are in
     record {
+      table = told.table;
+      few = omega (arith, told.known, told.accounts);
+      named = told.named;
+      units = told.small;
       seeds = seeds_of f;
       certs = certs_of f;
       rises = seeds-rise (certificates f) (certificates f).accounts;

@@ -1,12 +1,15 @@
 -- The canonical text of a proof: its lines in one order, each with its words in one spelling.
-use Rattle.std.specs.Prelude.{ℕ, ◌≡◌, List, [], ◌∷◌, ◌++◌, length, map, flat_map, codes, decimal, Ok}
+use Rattle.std.specs.Prelude.{ℕ, ◌≡◌, ◌<◌, ◌≤◌, ◌^◌, All, List, [], ◌∷◌, ◌++◌, length, map, flat_map, codes, decimal, Ok}
 use Rattle.std.specs.List.{join_with_byte}
 use Rattle.std.specs.List.Sorted.{IsStrictlyIncreasing}
 use Rattle.trust_types.specs.declared.levels.Level.{Level}
 use Rattle.trust_types.specs.declared.accounts.Node.{Node}
 use Rattle.trust_types.specs.declared.graphs.Cert.{Cert}
 use Rattle.trust_types.specs.declared.flows.FlowLine.{FlowLine}
+use Rattle.trust_types.specs.declared.limits.TheConstants.{MOST_ACCOUNTS}
 use Rattle.trust_types.specs.Levels.{level_name}
+use Rattle.trust_types.specs.Names.{IsName}
+use Rattle.trust_types.specs.Tables.{IsTable}
 use Rattle.trust_types.specs.Certs.{CanStand, IsMadeOf}
 use Rattle.trust_types.specs.Proven.{Lists, IsProven}
 use Rattle.trust_types.specs.NodeWords.{name_of, node_name}
@@ -50,9 +53,13 @@ abbrev pub claim_words : List (List ℕ) → Level → Lists → List (List (Lis
 claim_words names level r =
     (level_words level ∷ map (flow_words names) r.flow) ++ map (pass_words names) r.pass ++ map (full_words names) r.full
 
--- The text is the canonical one of these lists as a proof over a site: accounts in order, seeds in rising order, standing
--- certificates in rising order of giver and taker, and then the lists as they are.
+-- The text is the canonical one of these lists as a proof over a site, whose table and names are such: accounts in order, seeds in
+-- rising order, standing certificates in rising order of giver and taker, and then the lists as they are.
 pub record IsCanonical (v : View) (level : Level) (r : Lists) (text : List ℕ) : Type 0 where
+  pub table : IsTable v.table
+  pub few : length v.names ≤ MOST_ACCOUNTS
+  pub named : All IsName v.names
+  pub units : All (λ l. l.units < 2 ^ 32) r.flow
   pub seeds : List ℕ
   pub certs : List Cert
   pub rises : IsStrictlyIncreasing seeds

@@ -1,3 +1,3 @@
 mod SpreadKeys
 mod Buckets
-mod Indexing
+pub mod Indexing

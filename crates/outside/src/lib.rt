@@ -2,6 +2,7 @@
 #![tactic(auto)]
 
 mod calls;
+mod counted;
 mod counts;
 mod failed;
 mod mem_sink;
@@ -20,6 +21,3 @@ pub use sink::Sink;
 pub use source::Source;
 pub use standard::{StdSink, StdSource};
 pub use writing::write_all;
-
-#[cfg(test)]
-mod tests;

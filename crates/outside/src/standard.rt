@@ -1,14 +1,14 @@
-//! The standard input and output. What they give and take is not told.
-ghost use Rattle.std.specs.Prelude.{◌≡◌, ◌≤◌, None, length, take, IfOk};
-ghost use Rattle.std.specs.Io.KnownBytes.{ReadConsumes, Appends};
+//! The standard input and output. What they give and take is not told; what one read and one write do is said of any
+//! reader and writer.
+ghost use Rattle.std.specs.Prelude.{◌≡◌, None};
 ghost use Rattle.outside.specs.Standard.{no_reads};
 
+use crate::counted::{read_counted, write_counted};
 use crate::counts::Count;
 use crate::failed::Failed;
 use crate::sink::Sink;
 use crate::source::Source;
-use std::io;
-use std::io::{ErrorKind, Read, Stdin, Stdout, Write};
+use std::io::{Stdin, Stdout};
 use std::marker::Model;
 
 /// The standard input. A read that a signal interrupts is tried again. Any other error is a fault.
@@ -49,18 +49,7 @@ impl Source for StdSource {
     ghost left = { λ _. None };
 
     fn read(&mut self, into: &mut [u8]) -> Result<usize, Failed> {
-        match read_uninterrupted(&mut self.stdin, into) {
-            Ok(n) => {
-                if n == 0 {
-                    self.ends.rise();
-                }
-                Ok(n)
-            }
-            Err(_) => {
-                self.faults.rise();
-                Err(Failed)
-            }
-        }
+        Ok(read_counted(&mut self.stdin, into, &mut self.faults, &mut self.ends)?)
     }
 }
 
@@ -100,67 +89,7 @@ impl Sink for StdSink {
 
     /// It flushes after each write. Where a flush fails, the bytes may have gone out all the same.
     fn write(&mut self, piece: &[u8]) -> Result<usize, Failed> {
-        match write_and_flush(&mut self.stdout, piece) {
-            Ok(n) if n > 0 => Ok(n),
-            _ => {
-                self.faults.rise();
-                Err(Failed)
-            }
-        }
+        Ok(write_counted(&mut self.stdout, piece, &mut self.faults)?)
     }
 }
 
-/// One read, tried again where a signal interrupts it.
-fn read_uninterrupted<R: Read>(reader: &mut R, into: &mut [u8]) -> io::Result<usize>
-    ensures bound { IfOk result (λ n. n ≤ length into.new) }
-    ensures bytes { ReadConsumes (R.remaining reader.old) (R.remaining reader.new) result into.new }
-{
-    for _ in 0..u64::MAX {
-        match reader.read(into) {
-            Err(error) if error.kind() == ErrorKind::Interrupted => {}
-            Err(error) => return Err(error),
-            Ok(n) => return Ok(n),
-        }
-    }
-    Err(ErrorKind::Interrupted.into())
-}
-
-/// One write and a flush. The write is tried again where a signal interrupts it.
-fn write_and_flush<W: Write>(writer: &mut W, piece: &[u8]) -> io::Result<usize>
-    ensures bound { IfOk result (λ n. n ≤ length piece.now) }
-    ensures bytes { IfOk result (λ n. Appends (W.contents writer.old) (W.contents writer.new) (take n piece.now)) }
-{
-    for _ in 0..u64::MAX {
-        match writer.write(piece) {
-            Err(error) if error.kind() == ErrorKind::Interrupted => {}
-            Err(error) => return Err(error),
-            Ok(n) => {
-                writer.flush()?;
-                return Ok(n);
-            }
-        }
-    }
-    Err(ErrorKind::Interrupted.into())
-}
-
-// What the machine gives and takes is not known here. Whatever it is, answer and counts agree.
-#[cfg(test)]
-mod tests {
-    use super::*;
-    use crate::writing::write_all;
-
-    #[test]
-    fn the_standard_input_counts_its_answers(rt: HostRuntime) {
-        let mut source = StdSource::new(&rt);
-        let answer = source.read(&mut [0; 16]);
-        assert_eq!(rt; source.faults.value(), u64::from(answer.is_err()));
-        assert_eq!(rt; source.ends.value(), u64::from(answer == Ok(0)));
-    }
-
-    #[test]
-    fn the_standard_output_counts_its_faults(rt: HostRuntime) {
-        let mut sink = StdSink::new(&rt);
-        let answer = write_all(&mut sink, b"a line of a test\n");
-        assert_eq!(rt; sink.faults.value(), u64::from(answer.is_err()));
-    }
-}

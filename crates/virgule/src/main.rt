@@ -3,20 +3,10 @@
 
 ghost use Rattle.std.specs.Prelude.{◌≡◌};
 ghost use Rattle.std.specs.Process.{exit_status};
-ghost use Rattle.virgule.specs.Outcomes.{code_after};
+ghost use Rattle.commands.specs.Outcomes.{code_after};
 
-mod answers;
-mod command;
-mod outcome;
-mod rosters;
-mod run;
-mod status;
-#[cfg(test)]
-mod tests;
-
+use commands::{Status, run};
 use outside::{StdSink, StdSource};
-use run::run;
-use status::Status;
 use std::env;
 use std::io::ErrorKind;
 use std::process::ExitCode;

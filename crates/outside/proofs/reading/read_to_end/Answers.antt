@@ -12,5 +12,5 @@ loop-taken-preserved g c =
       within = read.within;
       left = prepend_known-take _ _ _ _ _ _ _ before.left read.front read.bytes;
       ends = read.ends.1 some ∙ before.ends;
-      faults = read.cause.stayed ∙ before.faults;
+      faults = read.cause ∙ before.faults;
     }

@@ -1,0 +1,106 @@
+//! Rosters as they are printed.
+
+ghost use Rattle.std.specs.Prelude.{ℕ, List, ◌≡◌, ◌<◌, ◌∷◌, ◌++◌, All as Each, IfOk, OnOk, length, flat_map};
+ghost use Rattle.trust_types.specs.Levels.{IsGrade};
+ghost use Rattle.site_text.specs.View.{of_frozen};
+ghost use Rattle.trust_types.specs.NodeWords.{name_of};
+ghost use Rattle.commands.specs.declared.command.Asked.TheVariants.{All};
+ghost use Rattle.commands.specs.Commands.{AreGrades};
+ghost use Rattle.commands.specs.Answers.{AreRosterLines, IsRosterLine, roster_line};
+
+use crate::command::Asked;
+use frozen::Frozen;
+use roster_form::{Candidate, LevelRoster};
+use solver::{solve_alone, solve_one};
+use std::alloc::Global;
+use std::sync::Arc;
+use name_index::NameIndex;
+use trust_types::{AccountNo, Level, NoMemory};
+
+/// The lines of the rosters that are asked for, lowest grade first.
+pub fn roster_lines(alloc: Global, asked: Asked, frozen: &Arc<Frozen>) -> Result<Vec<u8>, NoMemory>
+    requires { AreGrades asked }
+    ensures { IfOk result (λ text. AreRosterLines asked (of_frozen frozen.now.value) text.items) }
+{
+    match asked {
+        Asked::One(level) => one_line(alloc, frozen, level),
+        Asked::All => all_lines(alloc, frozen),
+    }
+}
+
+/// The line of one grade's roster.
+fn one_line(alloc: Global, frozen: &Arc<Frozen>, level: Level) -> Result<Vec<u8>, NoMemory>
+    requires { IsGrade level }
+    ensures { IfOk result (λ text. IsRosterLine (of_frozen frozen.now.value) level text.items) }
+{
+    let roster = solve_one(alloc, frozen, level)?;
+    let mut text = Vec::new(alloc);
+    push_line(alloc, &mut text, frozen.names(), &roster)?;
+    Ok(text)
+}
+
+/// The lines of the three grades, whose rosters are found one after another in the same room.
+fn all_lines(alloc: Global, frozen: &Arc<Frozen>) -> Result<Vec<u8>, NoMemory>
+    ensures { IfOk result (λ text. AreRosterLines All (of_frozen frozen.now.value) text.items) }
+{
+    let candidate = solve_alone(alloc, frozen)?;
+    let mut text = Vec::new(alloc);
+    push_grade(alloc, &mut text, &candidate, Level::Apprentice)?;
+    push_grade(alloc, &mut text, &candidate, Level::Journeyer)?;
+    push_grade(alloc, &mut text, &candidate, Level::Master)?;
+    Ok(text)
+}
+
+/// Adds the line of a grade's roster.
+fn push_grade(
+    alloc: Global,
+    text: &mut Vec<u8>,
+    candidate: &Candidate,
+    level: Level,
+) -> Result<(), NoMemory>
+    requires { IsGrade level }
+    ensures { OnOk result ((line : List ℕ) × IsRosterLine (of_frozen candidate.now.graph) level line × (text.new.items ≡ text.old.items ++ line)) }
+{
+    match candidate.roster(level) {
+        Some(roster) => push_line(alloc, text, candidate.frozen().names(), roster),
+        None => Ok(()),
+    }
+}
+
+/// Adds the line of a roster: its grade, how many accounts it has, and their names in the order of their numbers.
+fn push_line(
+    alloc: Global,
+    text: &mut Vec<u8>,
+    names: &NameIndex,
+    roster: &LevelRoster,
+) -> Result<(), NoMemory>
+    requires { Each (λ a. a < length names.now) roster.now.served.items }
+    ensures { OnOk result (text.new.items ≡ text.old.items ++ roster_line names.now roster.now.level roster.now.served.items) }
+{
+    let front = format!(in alloc; "{} {}", roster.level.name(), roster.served.len())?;
+    text.extend_from_slice(front.as_bytes())?;
+    push_names(text, names, &roster.served)?;
+    text.push(b'\n')?;
+    Ok(())
+}
+
+/// Adds the names of these accounts, each behind a space.
+fn push_names(text: &mut Vec<u8>, names: &NameIndex, accounts: &[AccountNo]) -> Result<(), NoMemory>
+    requires { Each (λ a. a < length names.now) accounts.now }
+    ensures { OnOk result (text.new.items ≡ text.old.items ++ flat_map (λ a. 32 ∷ name_of names.now a) accounts.now) }
+{
+    for account in accounts {
+        push_name(text, names, *account)?;
+    }
+    Ok(())
+}
+
+/// Adds the name of an account behind a space.
+fn push_name(text: &mut Vec<u8>, names: &NameIndex, account: AccountNo) -> Result<(), NoMemory>
+    requires { account < length names.now }
+    ensures { OnOk result (text.new.items ≡ text.old.items ++ 32 ∷ name_of names.now account) }
+{
+    text.push(b' ')?;
+    text.extend_from_slice(names.name(account).bytes())?;
+    Ok(())
+}

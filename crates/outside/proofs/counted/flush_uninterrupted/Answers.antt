@@ -1,0 +1,5 @@
+use Rattle.outside.proofs.Kept.{Keeps-same, Keeps-then}
+use Rattle.outside.proofs.counted.flush_uninterrupted.Goals as goal
+
+pub loop-init : goal.loop-init
+loop-init g c = Keeps-same _

@@ -1,0 +1,118 @@
+ghost use Rattle.std.specs.Prelude.{◌≡◌, ◌<◌};
+ghost use Rattle.trust_types.specs.Levels.{IsGrade};
+ghost use Rattle.frozen.specs.Revision.{certificates};
+ghost use Rattle.split_graph.specs.Network.{Fits, StandsFor};
+
+use crate::sites::{crowd, site};
+use distances::{Queue, capacities};
+use flow_engine::Workspace;
+use frozen::Frozen;
+use split_graph::Residual;
+use std::marker::Brand;
+use std::sync::ledger::{Blank, Ledger};
+use std::test::Fail;
+use trust_types::{AccountNo, CertGraph, Level, Side, Node, Steps};
+
+/// Solves a site at the lowest level and then again at the highest.
+fn solve_at_master<L: Ledger>(workspace: &mut Workspace, frozen: &Frozen, blank: Blank)
+    requires name { blank.name ≡ L.name }
+    requires parts { blank.parts ≡ L.parts }
+    requires some { 0 < blank.parts }
+    requires room { Fits frozen.now workspace.old.network.room }
+    ensures graph { workspace.new.network.graph ≡ frozen.now }
+{
+    let mut steps = Steps::<L>::new(blank);
+    workspace.solve(frozen, Level::Apprentice, &mut steps);
+    workspace.solve_again(frozen, Level::Master, &mut steps);
+}
+
+#[test]
+fn a_workspace_may_have_more_room_than_a_site_needs(rt: HostRuntime) -> Result<(), Fail> {
+    let mut workspace = Workspace::reserve(rt.alloc(), 10, 22)?;
+    let frozen = crowd(rt.alloc())?;
+    if frozen.accounts() != 5 || frozen.certs() > 22 {
+        return Err("five accounts".into());
+    }
+    solve_at_master::<Brand>(&mut workspace, &frozen, Blank::new(1));
+    for (number, is_served) in [(0, true), (1, true), (2, true), (3, false), (4, false)] {
+        assert_eq!(rt; workspace.served(AccountNo(number)), is_served, "{number}");
+    }
+    assert_eq!(rt; workspace.root_units(AccountNo(0)), 3);
+    assert_eq!(rt; workspace.side(Node::Account(AccountNo(1))), Side::Full);
+    Ok(())
+}
+
+/// What an arc without a bound counts as.
+const NO_BOUND: u32 = 4_294_967_295;
+
+/// The first arc of each split node of the site below, and the number of arcs.
+const FIRSTS: [u32; 10] = [0, 1, 3, 6, 9, 12, 13, 16, 17, 20];
+
+/// The node that each arc enters, and what rests on it at Master.
+const ARCS: [(u32, u32); 20] = [
+    // of the root's halves: through it and back, and to the seed
+    (1, 799),
+    (0, 0),
+    (2, NO_BOUND),
+    // of the seed's: through it, to the supersink, back to the root; back through it, and to the two that it certifies
+    (3, 199),
+    (8, 1),
+    (1, 0),
+    (2, 0),
+    (4, NO_BOUND),
+    (6, 0),
+    // of those of the one that it certifies as Master
+    (5, 49),
+    (8, 1),
+    (3, 0),
+    (4, 0),
+    // and as Apprentice: it has no capacity
+    (7, 0),
+    (8, 1),
+    (3, 0),
+    (6, 0),
+    // back out of the supersink
+    (2, 0),
+    (4, 0),
+    (6, 0),
+];
+
+/// Loads a site of three accounts at a level, with its capacities there.
+fn load(frozen: &Frozen, level: Level, queue: &mut Queue, residual: &mut Residual)
+    requires grade { IsGrade level }
+    requires accounts { (certificates frozen.now).accounts ≡ 3 }
+    requires room { Fits frozen.now residual.old.room }
+    requires queue { queue.old ≡ 3 }
+    ensures graph { residual.new.graph ≡ frozen.now }
+    ensures room { residual.new.room ≡ residual.old.room }
+    ensures stands { StandsFor residual.new }
+    ensures queue { queue.new ≡ 3 }
+{
+    let mut caps_of = [0; 3];
+    capacities(frozen, level, frozen.caps(), &mut caps_of, queue);
+    residual.load(frozen, level, &caps_of);
+}
+
+#[test]
+fn a_level_has_its_arcs(rt: HostRuntime) -> Result<(), Fail> {
+    let text = b"caps default\naccount a\naccount b\naccount c\nseed a\ncert a b Master\ncert a c Apprentice\n";
+    let frozen = site(rt.alloc(), text)?;
+    if frozen.accounts() != 3 {
+        return Err("three accounts".into());
+    }
+    let mut queue = Queue::reserve(rt.alloc(), 3)?;
+    let mut residual = Residual::reserve(rt.alloc(), 3, frozen.certs())?;
+    load(&frozen, Level::Master, &mut queue, &mut residual);
+    for node in 0..10 {
+        assert_eq!(rt; residual.first(node), FIRSTS[node as usize], "of node {node}");
+    }
+    if residual.first(9) != 20 {
+        return Err("twenty arcs".into());
+    }
+    for arc in 0..20 {
+        let (head, rest) = ARCS[arc as usize];
+        assert_eq!(rt; residual.head(arc), head, "along arc {arc}");
+        assert_eq!(rt; residual.rest(arc), rest, "along arc {arc}");
+    }
+    Ok(())
+}
