@@ -12,7 +12,7 @@ use Rattle.trust_types.specs.Lines.{place}
 use Rattle.trust_types.specs.Proven.{Lists}
 use Rattle.frozen.specs.Revision.{Revision, certificates}
 use Rattle.roster_form.specs.Candidates.{IsSound}
-use Rattle.site_text.specs.Canonical.{line, site_words, claim_words, IsCanonical}
+use Rattle.audit_text.specs.Canonical.{line, site_words, claim_words, IsCanonical}
 use Rattle.site_text.specs.View.{of_frozen}
 use Rattle.commands.proofs.Counts.{rising_between, flow_few}
 use Rattle.commands.proofs.Sizes.{size, size-append, site_short, claim_short}

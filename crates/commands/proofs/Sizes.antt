@@ -20,7 +20,7 @@ use Rattle.trust_types.specs.Names.{is_name, IsName}
 use Rattle.trust_types.specs.NodeWords.{name_of, node_name}
 use Rattle.trust_types.specs.Proven.{Lists}
 use Rattle.trust_types.specs.Tables.{IsTable}
-use Rattle.site_text.specs.Canonical.{line, caps_words, account_words, seed_words, cert_words, level_words, flow_words, pass_words, full_words, site_words, claim_words}
+use Rattle.audit_text.specs.Canonical.{line, caps_words, account_words, seed_words, cert_words, level_words, flow_words, pass_words, full_words, site_words, claim_words}
 
 -- The bytes of words, each with one more.
 worded : List (List ℕ) → ℕ
