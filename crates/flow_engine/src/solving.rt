@@ -159,8 +159,8 @@ impl Model for Workspace {
 }
 
 impl Workspace {
-    /// Room to solve sites with at most so many accounts and certificates. All memory is taken here. Nothing is solved yet: there is no
-    /// flow, and no node is in the cut.
+    /// Room to solve sites with at most so many accounts and certificates. All memory is taken here. Nothing is solved yet, and
+    /// nothing is reached: no node is in the cut.
     ///
     /// # Errors
     /// [`NoMemory`] where that memory can't be had.
