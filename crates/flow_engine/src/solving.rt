@@ -1,6 +1,6 @@
 //! The greatest flow of a site at a level.
 
-ghost use Rattle.std.specs.Prelude.{ℕ, ◌≡◌, ◌<◌, ◌≤◌, IfOk, length, Some, None};
+ghost use Rattle.std.specs.Prelude.{ℕ, ◌≡◌, ◌<◌, ◌≤◌, IfOk, length, Some, None, false};
 ghost use Rattle.trust_types.specs.declared.accounts.Node.{Node};
 ghost use Rattle.trust_types.specs.declared.accounts.Node.TheVariants.{Root, Account};
 ghost use Rattle.trust_types.specs.declared.flows.Side.TheVariants.{Outside};
@@ -14,8 +14,8 @@ ghost use Rattle.split_flow.specs.Solved.{IsSolved};
 ghost use Rattle.split_graph.specs.Arcs.{IsSameGraph};
 ghost use Rattle.split_graph.specs.Network.{Fits, IsLaidFor, rows_of};
 ghost use Rattle.flow_engine.specs.Solved.{flow_in, sides_in};
-ghost use Rattle.flow_engine.specs.inner.Held.{IsLoaded, IsReadable};
-ghost use Rattle.flow_engine.specs.inner.Tree.{HoldsNodes};
+ghost use Rattle.flow_engine.specs.inner.Held.{IsLoaded, IsReserved, IsReadable};
+ghost use Rattle.flow_engine.specs.inner.Tree.{HoldsNodes, is_seen};
 
 use crate::reading::{read_root_units, units_along};
 use crate::searches::Search;
@@ -75,15 +75,74 @@ fn solve_loaded<L: Ledger>(
     read_root_units(residual, frozen, frozen.accounts(), root_units);
 }
 
+/// The memory of a solve beside the residual graph: for the search, for the capacities of the accounts and the queue by which they are
+/// worked out, and for the units from the root.
+#[derive(Drop)]
+struct Scratch {
+    search: Search,
+    queue: Queue,
+    capacities: Vec<u32>,
+    root_units: Vec<u32>,
+}
+
+impl Scratch {
+    /// Memory for sites with at most so many accounts. No node was reached yet.
+    fn reserve(alloc: Global, accounts: u32) -> Result<Scratch, NoMemory>
+        ensures reserved { IfOk result (λ scratch. IsReserved accounts scratch.search scratch.queue scratch.capacities.items scratch.root_units.items) }
+        ensures none { IfOk result (λ scratch. (v : ℕ) → is_seen scratch.search v ≡ false) }
+    {
+        Ok(Scratch {
+            search: Search::reserve(alloc, 2 * accounts as usize + 3)?,
+            queue: Queue::reserve(alloc, accounts)?,
+            capacities: vec![in alloc; 0; accounts as usize]?,
+            root_units: vec![in alloc; 0; accounts as usize]?,
+        })
+    }
+
+    /// Loads a level of a site whose arcs are laid out, and solves it.
+    fn solve<L: Ledger>(
+        &mut self,
+        frozen: &Frozen,
+        level: Level,
+        residual: &mut Residual,
+        steps: &mut Steps<L>,
+    )
+        requires grade { IsGrade level }
+        requires laid { IsLaidFor frozen.now residual.old }
+        requires fits { Fits frozen.now residual.old.room }
+        requires reserved { IsReserved residual.old.room.accounts self.old.search self.old.queue self.old.capacities.items self.old.root_units.items }
+        ensures room { residual.new.room ≡ residual.old.room }
+        ensures graph { residual.new.graph ≡ Some frozen.now }
+        ensures level { residual.new.level ≡ Some level }
+        ensures arcs { IsSameGraph residual.old.arcs residual.new.arcs }
+        ensures reserved { IsReserved residual.new.room.accounts self.new.search self.new.queue self.new.capacities.items self.new.root_units.items }
+        ensures readable { IsReadable residual.new self.new.root_units.items }
+        ensures solved { IsSolved (certificates frozen.now) level frozen.now.caps (flow_in (record { network = residual.new; reached = self.new.search.seen })) (sides_in (record { network = residual.new; reached = self.new.search.seen })) }
+    {
+        load(
+            frozen,
+            level,
+            &mut self.capacities,
+            &mut self.queue,
+            residual,
+        );
+        solve_loaded(
+            frozen,
+            level,
+            residual,
+            &mut self.search,
+            &mut self.root_units,
+            steps,
+        );
+    }
+}
+
 /// The memory of the engine. Contracts see the room that was reserved, the graph and the level that were solved, and the flow and
 /// the cut that were found.
 #[derive(Drop)]
 pub struct Workspace {
     residual: Residual,
-    search: Search,
-    queue: Queue,
-    capacities: Vec<u32>,
-    root_units: Vec<u32>,
+    scratch: Scratch,
 }
 
 impl Model for Workspace {
@@ -93,14 +152,15 @@ impl Model for Workspace {
 
     ghost Value = { Solved };
 
-    ghost view = { λ w. record { network = w.residual; reached = w.search.seen } };
+    ghost view = { λ w. record { network = w.residual; reached = w.scratch.search.seen } };
 
-    ghost invariant = { λ w. IsReserved w.residual.room.accounts w.search w.queue w.capacities.items w.root_units.items × ForSome w.residual.graph (λ _. IsReadable w.residual w.root_units.items) };
+    ghost invariant = { λ w. IsReserved w.residual.room.accounts w.scratch.search w.scratch.queue w.scratch.capacities.items w.scratch.root_units.items
+        × ForSome w.residual.graph (λ _. IsReadable w.residual w.scratch.root_units.items) };
 }
 
 impl Workspace {
-    /// Room to solve sites with at most so many accounts and certificates. All memory is taken here. Nothing is solved yet: there is no
-    /// flow, and no node is in the cut.
+    /// Room to solve sites with at most so many accounts and certificates. All memory is taken here. Nothing is solved yet, and
+    /// nothing is reached: no node is in the cut.
     ///
     /// # Errors
     /// [`NoMemory`] where that memory can't be had.
@@ -111,10 +171,7 @@ impl Workspace {
     {
         Ok(Workspace {
             residual: Residual::reserve(alloc, accounts, certs)?,
-            search: Search::reserve(alloc, 2 * accounts as usize + 3)?,
-            queue: Queue::reserve(alloc, accounts)?,
-            capacities: vec![in alloc; 0; accounts as usize]?,
-            root_units: vec![in alloc; 0; accounts as usize]?,
+            scratch: Scratch::reserve(alloc, accounts)?,
         })
     }
 
@@ -130,21 +187,7 @@ impl Workspace {
         ensures solved { IsSolved (certificates frozen.now) level frozen.now.caps (flow_in self.new) (sides_in self.new) }
     {
         self.residual.lay_out(frozen);
-        load(
-            frozen,
-            level,
-            &mut self.capacities,
-            &mut self.queue,
-            &mut self.residual,
-        );
-        solve_loaded(
-            frozen,
-            level,
-            &mut self.residual,
-            &mut self.search,
-            &mut self.root_units,
-            steps,
-        );
+        self.scratch.solve(frozen, level, &mut self.residual, steps);
     }
 
     /// Finds the same at another level of the graph that was solved last. Its arcs stay where they lie, which spares most of the
@@ -160,21 +203,7 @@ impl Workspace {
         ensures arcs { IsSameGraph self.old.network.arcs self.new.network.arcs }
         ensures solved { IsSolved (certificates frozen.now) level frozen.now.caps (flow_in self.new) (sides_in self.new) }
     {
-        load(
-            frozen,
-            level,
-            &mut self.capacities,
-            &mut self.queue,
-            &mut self.residual,
-        );
-        solve_loaded(
-            frozen,
-            level,
-            &mut self.residual,
-            &mut self.search,
-            &mut self.root_units,
-            steps,
-        );
+        self.scratch.solve(frozen, level, &mut self.residual, steps);
     }
 
     /// Whether the flow serves an account.
@@ -199,7 +228,7 @@ impl Workspace {
         requires { account < accounts (rows_of self.now.network) }
         ensures { result ≡ flow_in self.now Root account }
     {
-        self.root_units[account.index()]
+        self.scratch.root_units[account.index()]
     }
 
     /// The side of the cut on which a node lies.
@@ -207,10 +236,10 @@ impl Workspace {
         requires { IsNode (accounts (rows_of self.now.network)) node }
         ensures { result ≡ sides_in self.now node }
     {
-        if !self.search.has(in_half(&node)) {
+        if !self.scratch.search.has(in_half(&node)) {
             return Side::Outside;
         }
-        if self.search.has(out_half(&node)) {
+        if self.scratch.search.has(out_half(&node)) {
             return Side::Pass;
         }
         Side::Full

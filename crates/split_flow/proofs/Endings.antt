@@ -23,7 +23,7 @@ pub unmoved : (n : ℕ) (c : Rests) → IsMoved n c c
 unmoved n c = record { both = λ u v. refl; kept = λ u is. refl }
 
 pub served_at_first : (m : Moves) → PassesServed m.c
-served_at_first m x some = absurd (omega (arith, own_edge m x))
+served_at_first m x some = absurd (omega (arith, own_edge m (Account x)))
 
 -- a split graph through which units were moved until none could
 pub record Sent : Type 0 where

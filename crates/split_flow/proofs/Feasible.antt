@@ -13,7 +13,7 @@ use Rattle.split_flow.specs.Split.{InHalf, OutHalf, unbounded, IsNode}
 use Rattle.split_flow.specs.Moved.{PassesServed, units_moved}
 use Rattle.split_flow.specs.Laws.{NoneToItself}
 use Rattle.split_flow.proofs.Nodes.{number}
-use Rattle.split_flow.proofs.Halves.{Moves, taken_from, zero_cap, to_other_half, back_to_account, none_to_itself, passed_on, passed_on_by_root, room_through, room_through_root, room_to_sink, taken_in}
+use Rattle.split_flow.proofs.Halves.{Moves, taken_from, zero_cap, to_other_half, back_to_account, none_to_itself, passed_on, room_through, room_to_sink, taken_in}
 
 -- An account that one with capacity certifies has capacity itself.
 pub record CapacityPasses (g : Certificates) (level : Level) (cap : Node → ℕ) : Type 0 where
@@ -54,7 +54,7 @@ balanced m x below =
 sends : (m : Moves) → CapacityPasses m.g m.level m.cap → (x : Node) (b : ℕ) → b < m.g.accounts → IsNode m.g.accounts x → 0 < units_moved m.r x b → 0 < m.cap x
 sends m passes Root b below is some = passes.root
 sends m passes (Account a) b below is some =
-    omega (arith, room_through m a is, passed_on m a is, part-le-sum_below m.g.accounts (units_moved m.r (Account a)) b below)
+    omega (arith, room_through m (Account a) is, passed_on m (Account a) is, part-le-sum_below m.g.accounts (units_moved m.r (Account a)) b below)
 
 none_sent : (m : Moves) → CapacityPasses m.g m.level m.cap → (x : Node) (b : ℕ) → b < m.g.accounts → IsNode m.g.accounts x → m.cap (Account b) ≡ 0 → units_moved m.r x b ≡ 0
 none_sent m passes x b below is none =
@@ -77,11 +77,11 @@ pub feasible : (m : Moves) → CapacityPasses m.g m.level m.cap → IsFeasible m
 feasible m passes = record {
   edges = on_edges m;
   served = balanced m;
-  root = omega (arith, passed_on_by_root m, room_through_root m);
-  room = λ x below. omega (arith, passed_on m x below, room_through m x below);
+  root = omega (arith, passed_on m Root tt, room_through m Root tt);
+  room = λ x below. omega (arith, passed_on m (Account x) below, room_through m (Account x) below);
   unreached = unreached m passes;
 }
 
 pub conduits : (m : Moves) → PassesServed m.r → ServesConduits m.g.accounts (units_moved m.r)
 conduits m served x below some =
-    omega (arith, served x (omega (arith, passed_on m x below)), passed_on m x below, taken_in m x below, room_to_sink m x below)
+    omega (arith, served x (omega (arith, passed_on m (Account x) below)), passed_on m (Account x) below, taken_in m x below, room_to_sink m x below)

@@ -9,7 +9,7 @@ use Rattle.trust_types.specs.Sum.{sum_below}
 use Rattle.trust_types.specs.Graph.{Certificates}
 use Rattle.trust_types.specs.Flow.{Flow, units_in, units_out}
 use Rattle.trust_types.proofs.Sums.{sum_below-zero, sum_below-add, sum_below-eq}
-use Rattle.split_flow.specs.Split.{SplitNode, InHalf, OutHalf, Supersink, source, Rests, IsArc, IsSplitGraph}
+use Rattle.split_flow.specs.Split.{SplitNode, InHalf, OutHalf, Supersink, source, Rests, IsNode, IsArc, IsSplitGraph}
 use Rattle.split_flow.specs.Moved.{IsMoved, out_of, units_moved}
 use Rattle.split_flow.specs.Laws.{NoneToItself}
 use Rattle.split_flow.proofs.Sums.{sum_below-point}
@@ -53,9 +53,10 @@ back_to_account m x a other = grind (arith, nat_tests, other)
 pub none_to_itself : (m : Moves) (x : ℕ) → units_moved m.r (Account x) x ≡ 0
 none_to_itself m x = grind (arith, nat_tests)
 
--- nothing goes from an account to itself
-pub own_edge : (m : Moves) (x : ℕ) → m.c (OutHalf (Account x)) (InHalf (Account x)) ≡ 0
-own_edge m x = zero_cap m (OutHalf (Account x)) (InHalf (Account x)) (m.no_self x)
+-- nothing goes from a node to itself
+pub own_edge : (m : Moves) (x : Node) → m.c (OutHalf x) (InHalf x) ≡ 0
+own_edge m Root = zero_cap m (OutHalf Root) source (λ no. no)
+own_edge m (Account a) = zero_cap m (OutHalf (Account a)) (InHalf (Account a)) (m.no_self a)
 
 -- what goes through a node
 abbrev pub through : Rests → Node → ℕ
@@ -95,7 +96,7 @@ out_of_second m x below =
     let point : sum_below n (λ a. halves (m.r u) a + f (Account x) a) ≡ sum_below n (halves (m.c u)) + m.r u (InHalf (Account x)) =
     sum_below-point n (λ a. halves (m.r u) a + f (Account x) a) (halves (m.c u)) x (m.r u (InHalf (Account x))) below
     (λ a lt other. omega (arith, none (OutHalf (Account a)) (λ no. no) (λ no. no), others a other))
-    (omega (arith, none (OutHalf (Account x)) (λ no. no) (λ no. no), none_to_itself m x, own_edge m x)) in
+    (omega (arith, none (OutHalf (Account x)) (λ no. no) (λ no. no), none_to_itself m x, own_edge m (Account x))) in
     omega (
       arith,
       point,
@@ -131,18 +132,13 @@ out_of_root_second m =
 abbrev pub taken_from : Rests → ℕ → ℕ
 taken_from r x = r Supersink (InHalf (Account x))
 
-pub passed_on : (m : Moves) (x : ℕ) → x < m.g.accounts → units_out m.g.accounts (units_moved m.r) (Account x) ≡ through m.r (Account x)
-passed_on m x below = omega (arith, out_of_second m x below, m.moved.kept (OutHalf (Account x)) below)
+pub passed_on : (m : Moves) (x : Node) → IsNode m.g.accounts x → units_out m.g.accounts (units_moved m.r) x ≡ through m.r x
+passed_on m Root is = omega (arith, out_of_root_second m, m.moved.kept (OutHalf Root) tt)
+passed_on m (Account a) is = omega (arith, out_of_second m a is, m.moved.kept (OutHalf (Account a)) is)
 
-pub passed_on_by_root : (m : Moves) → units_out m.g.accounts (units_moved m.r) Root ≡ through m.r Root
-passed_on_by_root m = omega (arith, out_of_root_second m, m.moved.kept (OutHalf Root) tt)
-
--- an account's room and its units, one way and back
-pub room_through : (m : Moves) (x : ℕ) → x < m.g.accounts → m.r (InHalf (Account x)) (OutHalf (Account x)) + through m.r (Account x) ≡ m.cap (Account x) - 1
-room_through m x below = omega (arith, m.moved.both (InHalf (Account x)) (OutHalf (Account x)), m.split.through (Account x) below, own_edge m x)
-
-pub room_through_root : (m : Moves) → m.r source (OutHalf Root) + through m.r Root ≡ m.cap Root - 1
-room_through_root m = omega (arith, m.moved.both source (OutHalf Root), m.split.through Root tt, zero_cap m (OutHalf Root) source (λ no. no))
+-- a node's room and its units, one way and back
+pub room_through : (m : Moves) (x : Node) → IsNode m.g.accounts x → m.r (InHalf x) (OutHalf x) + through m.r x ≡ m.cap x - 1
+room_through m x is = omega (arith, m.moved.both (InHalf x) (OutHalf x), m.split.through x is, own_edge m x)
 
 pub room_to_sink : (m : Moves) (x : ℕ) → x < m.g.accounts → m.r (InHalf (Account x)) Supersink + taken_from m.r x ≡ 1
 room_to_sink m x below = omega (arith, m.moved.both (InHalf (Account x)) Supersink, m.split.ends x below, zero_cap m Supersink (InHalf (Account x)) (λ no. no))
@@ -170,4 +166,4 @@ first_capacity m x below =
 pub taken_in : (m : Moves) (x : ℕ) → x < m.g.accounts →
     units_in m.g.accounts (units_moved m.r) x ≡ units_out m.g.accounts (units_moved m.r) (Account x) + taken_from m.r x
 taken_in m x below =
-    omega (arith, out_of_first m x below, first_capacity m x below, m.moved.kept (InHalf (Account x)) below, passed_on m x below, room_through m x below, room_to_sink m x below)
+    omega (arith, out_of_first m x below, first_capacity m x below, m.moved.kept (InHalf (Account x)) below, passed_on m (Account x) below, room_through m (Account x) below, room_to_sink m x below)

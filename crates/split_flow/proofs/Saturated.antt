@@ -15,7 +15,7 @@ use Rattle.trust_types.proofs.Conservation.{total_is_root_units}
 use Rattle.split_flow.specs.Split.{SplitNode, InHalf, OutHalf, Supersink, source, unbounded, IsNode}
 use Rattle.split_flow.specs.Moved.{IsSaturated, side_of_halves, sides_of_reached, units_moved}
 use Rattle.split_flow.proofs.Counted.{counted, counted_sum, counted_add, not_both}
-use Rattle.split_flow.proofs.Halves.{Moves, through, back_to_account, none_to_itself, passed_on, passed_on_by_root, room_through, room_through_root, room_to_sink, taken_in}
+use Rattle.split_flow.proofs.Halves.{Moves, through, back_to_account, none_to_itself, passed_on, room_through, room_to_sink, taken_in}
 use Rattle.split_flow.proofs.Feasible.{CapacityPasses, feasible, on_edges, along_edge}
 
 -- what these lemmas speak of: a saturated set after some moves, where out capacity comes near the bound
@@ -28,8 +28,7 @@ pub record Saturation : Type 0 where
 
 -- a node sends less than the bound
 sends_little : (s : Saturation) (x : Node) → IsNode s.m.g.accounts x → units_out s.m.g.accounts (units_moved s.m.r) x < unbounded
-sends_little s Root is = omega (arith, passed_on_by_root s.m, room_through_root s.m, s.small Root is)
-sends_little s (Account a) is = omega (arith, passed_on s.m a is, room_through s.m a is, s.small (Account a) is)
+sends_little s x is = omega (arith, passed_on s.m x is, room_through s.m x is, s.small x is)
 
 giver_is : (g : Certificates) (level : Level) (x : Node) (b : ℕ) → HasEdge g level x b → IsNode g.accounts x
 giver_is g level Root b edge = tt
@@ -119,7 +118,7 @@ share_by s x below true false e f =
       | inl some ↦ not_both (s.reached (OutHalf (Account x))) (s.saturated.closed (InHalf (Account x)) (OutHalf (Account x)) e some) f
       | inr none ↦
           elim (cases_lt 0 (s.m.cap (Account x))) [
-            | inl capacity ↦ omega (arith, served, passed_on s.m x below, room_through s.m x below)
+            | inl capacity ↦ omega (arith, served, passed_on s.m (Account x) below, room_through s.m (Account x) below)
             | inr without ↦
                 let nothing : units_in n flow x ≡ 0 = (feasible s.m s.passes).unreached x below (omega arith) in
                 absurd (omega arith)
@@ -129,7 +128,7 @@ share_by s x below false false e f = omega arith
 share_by s x below false true e f =
     elim (cases_lt 0 (through s.m.r (Account x))) [
       | inl some ↦ not_both (s.reached (InHalf (Account x))) (s.saturated.closed (OutHalf (Account x)) (InHalf (Account x)) f some) e
-      | inr none ↦ omega (arith, passed_on s.m x below)
+      | inr none ↦ omega (arith, passed_on s.m (Account x) below)
     ]
 
 shares : (s : Saturation) →
@@ -151,7 +150,7 @@ by_root s true e = omega arith
 by_root s false e =
     elim (cases_lt 0 (s.m.r source (OutHalf Root))) [
       | inl some ↦ not_both (s.reached (OutHalf Root)) (s.saturated.closed source (OutHalf Root) s.saturated.starts some) e
-      | inr none ↦ omega (arith, passed_on_by_root s.m, room_through_root s.m)
+      | inr none ↦ omega (arith, passed_on s.m Root tt, room_through s.m Root tt)
     ]
 
 pub value_is_total : (s : Saturation) → value s.m.g s.m.cap (sides_of_reached s.reached) ≡ total s.m.g.accounts (units_moved s.m.r)

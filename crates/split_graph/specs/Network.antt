@@ -20,8 +20,8 @@ pub record Room : Type 0 where
   pub accounts : ℕ
   pub certs : ℕ
 
--- The graph, with its capacity table, and the level that were loaded, `None` until then; and the arcs of their split graph, with
--- the units that may still be moved along each.
+-- The graph whose arcs are laid out, with its capacity table, and the level that was loaded on them, each `None` until then; and the
+-- arcs of their split graph, with the units that may still be moved along each.
 pub record Network : Type 0 where
   pub room : Room
   pub graph : Option Revision
@@ -40,7 +40,7 @@ pub record Fits (f : Revision) (room : Room) : Type 0 where
   pub accounts : (certificates f).accounts ≤ room.accounts
   pub certs : length f.rows.takers ≤ room.certs
 
--- The rows of the graph that was loaded. Until then there are none.
+-- The rows of the graph that is laid out. Until then there are none.
 abbrev pub rows_of : Network → Rows
 rows_of n = option_map_or (λ f. f.rows) n.graph (record { seeds = []; starts = []; takers = []; levels = [] })
 
@@ -82,7 +82,7 @@ pub record IsLaidFor (f : Revision) (n : Network) : Type 0 where
   pub arcs : AreArcs (blank n.arcs)
   pub places : AreInPlace f.rows n.arcs
 
--- A graph was loaded at a level, and the arcs stand for what rests of its split graph.
+-- A level of a graph was loaded, and the arcs stand for what rests of its split graph.
 pub record StandsFor (n : Network) : Type 0 where
   pub graph : Revision
   pub level : Level

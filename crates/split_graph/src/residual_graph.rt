@@ -23,7 +23,7 @@ use std::snapshot::Snapshot;
 use trust_types::{AccountNo, CertGraph, Level, NoMemory, Node};
 
 /// What may still be moved along the arcs of Levien's split graph of a site at a level. Contracts see the room that was
-/// reserved, the graph and the level that were loaded, and the arcs with what rests on each. Split nodes are told by number, as
+/// reserved, the graph that is laid out and the level that was loaded, and the arcs with what rests on each. Split nodes are told by number, as
 /// [`in_half`] and [`out_half`] give it.
 #[derive(Drop)]
 pub struct Residual {
@@ -31,7 +31,7 @@ pub struct Residual {
     most_certs: u32,
     /// Contracts alone see it; it has no bytes.
     graph: Option<Snapshot<Frozen>>,
-    level: Level,
+    level: Option<Level>,
     accounts: u32,
     arcs: Vec<SplitArc>,
     table: ArcTable,
@@ -51,13 +51,14 @@ impl Model for Residual {
 
 impl Residual {
     /// Room for the split graphs of sites with at most so many accounts and certificates. All memory is taken here: about
-    /// 112 bytes an account and 32 a certificate. No graph is loaded yet, and nothing can be moved.
+    /// 112 bytes an account and 32 a certificate. No graph is laid out yet, and nothing can be moved.
     ///
     /// # Errors
     /// [`NoMemory`] where that memory can't be had.
     pub fn reserve(alloc: Global, accounts: u32, certs: u32) -> Result<Residual, NoMemory>
         ensures room { IfOk result (λ residual. residual.room ≡ record { accounts = accounts; certs = certs }) }
         ensures empty { IfOk result (λ residual. residual.graph ≡ None) }
+        ensures level { IfOk result (λ residual. residual.level ≡ None) }
         ensures closed { IfOk result (λ residual. (u v : SplitNode) → between residual.arcs u v ≡ 0) }
     {
         let most_nodes = 2 * accounts as usize + 3;
@@ -66,14 +67,14 @@ impl Residual {
             most_accounts: accounts,
             most_certs: certs,
             graph: None,
-            level: Level::Apprentice,
+            level: None,
             accounts: 0,
             arcs: Vec::with_capacity(alloc, most_arcs)?,
             table: ArcTable::reserve(alloc, most_nodes, most_arcs)?,
         })
     }
 
-    /// Lays out the arcs of the split graph of a site, whatever the level: a level is loaded on them next. What was loaded before is
+    /// Lays out the arcs of the split graph of a site, whatever the level: one is loaded on them next. What was loaded before is
     /// lost.
     ///
     /// It takes no memory, and time linear in accounts and certificates.
@@ -81,8 +82,10 @@ impl Residual {
         requires { Fits frozen.now self.old.room }
         ensures room { self.new.room ≡ self.old.room }
         ensures laid { IsLaidFor frozen.now self.new }
+        ensures level { self.new.level ≡ None }
     {
         self.graph = Some(Snapshot::of(frozen));
+        self.level = None;
         self.accounts = frozen.accounts();
         list_arcs(frozen, &mut self.arcs);
         self.table.build(2 * self.accounts as usize + 3, &self.arcs);
@@ -104,7 +107,7 @@ impl Residual {
         ensures split { IsSplitGraph (certificates frozen.now) level (cap_by (entry frozen.now.caps 0) caps_of.now) (between self.new.arcs) }
         ensures stands { StandsFor self.new }
     {
-        self.level = level;
+        self.level = Some(level);
         self.table.fill(frozen, level, frozen.caps().at(0), caps_of);
     }
 

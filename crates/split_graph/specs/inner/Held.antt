@@ -1,5 +1,5 @@
 -- How a residual graph is held. The crate's own functions alone speak of it.
-use Rattle.std.specs.Prelude.{ℕ, ◌≡◌, ◌+◌, ◌*◌, Option, option_map}
+use Rattle.std.specs.Prelude.{ℕ, ◌≡◌, ◌+◌, ◌*◌, Option}
 use Rattle.trust_types.specs.declared.levels.Level.{Level}
 use Rattle.frozen.specs.Revision.{Revision}
 use Rattle.split_graph.specs.Numbers.{node_count}
@@ -12,8 +12,8 @@ abbrev pub arcs_in : ℕ → Table → Arcs
 arcs_in accounts t = record { accounts = accounts; first = t.first; head = t.head; twin = t.twin; rest = t.rest }
 
 -- What contracts see, by the arrays.
-abbrev pub network : Room → Option Revision → Level → ℕ → Table → Network
-network room graph level accounts t = record { room = room; graph = graph; level = option_map (λ _. level) graph; arcs = arcs_in accounts t }
+abbrev pub network : Room → Option Revision → Option Level → ℕ → Table → Network
+network room graph level accounts t = record { room = room; graph = graph; level = level; arcs = arcs_in accounts t }
 
 -- How many arcs the split graph of so many accounts and certificates has at most.
 abbrev pub split_count : ℕ → ℕ → ℕ
