@@ -16,7 +16,7 @@ use Rattle.cut_check.specs.Line.{verdict_line}
 use Rattle.cut_check.proofs.Passing.{proven_is_passed}
 use Rattle.site_text.specs.Site.{proof}
 use Rattle.site_text.specs.View.{View, of_proof, IsProofOf}
-use Rattle.site_text.specs.Canonical.{IsAudit, IsReadAs}
+use Rattle.audit_text.specs.Canonical.{IsAudit, IsReadAs}
 use Rattle.virgule.specs.declared.status.Status.TheVariants.{Done}
 use Rattle.virgule.specs.declared.outcome.Answer.{Answer}
 use Rattle.virgule.specs.Answers.{status_for, AnswersProof, IsJudged, IsAuditText}

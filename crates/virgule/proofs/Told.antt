@@ -6,7 +6,7 @@ use Rattle.trust_types.specs.Proven.{Lists}
 use Rattle.frozen.specs.Revision.{Revision, certificates}
 use Rattle.roster_form.specs.Candidates.{IsSound}
 use Rattle.site_text.specs.View.{of_frozen}
-use Rattle.site_text.specs.Canonical.{IsAudit, IsCanonical, IsReadAs}
+use Rattle.audit_text.specs.Canonical.{IsAudit, IsCanonical, IsReadAs}
 use Rattle.virgule.specs.Answers.{IsRosterLine, roster_line}
 
 -- The accounts of a roster have names.

@@ -18,7 +18,7 @@ use Rattle.cut_check.specs.Line.{verdict_line}
 use Rattle.trust_types.specs.NodeWords.{name_of}
 use Rattle.site_text.specs.Site.{SiteText, ProofText, site, proof}
 use Rattle.site_text.specs.View.{View, of_text, IsProofOf}
-use Rattle.site_text.specs.Canonical.{IsAudit}
+use Rattle.audit_text.specs.Canonical.{IsAudit}
 use Rattle.virgule.specs.declared.status.Status.{Status}
 use Rattle.virgule.specs.declared.status.Status.TheVariants.{Done, No, Text}
 use Rattle.virgule.specs.declared.outcome.Answer.{Answer}

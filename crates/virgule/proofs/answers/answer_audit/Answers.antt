@@ -5,7 +5,7 @@ use Rattle.frozen.specs.Revision.{Revision}
 use Rattle.roster_form.specs.Candidates.{IsSound}
 use Rattle.roster_form.specs.LevelRosters.{lists_of}
 use Rattle.site_text.specs.View.{View, of_text, of_frozen}
-use Rattle.site_text.specs.Canonical.{IsCanonical, IsReadAs}
+use Rattle.audit_text.specs.Canonical.{IsCanonical, IsReadAs}
 use Rattle.virgule.specs.declared.status.Status.TheVariants.{Done}
 use Rattle.virgule.specs.declared.outcome.Answer.{Answer}
 use Rattle.virgule.specs.Answers.{AnswersSite, IsAuditText}
