@@ -2,7 +2,6 @@
 use Rattle.std.proofs.Common.{◌≡◌, ◌≢◌, ℕ, ◌+◌, ◌<◌, Bool, true, false, ◌&&◌, ◌||◌, not, if◌then◌else◌, List, [], ◌∷◌, ◌++◌, length, take, drop, get_or, Ok, All, IsTrue, refl, ap, ◌∙◌, arith, map, nat_lt, append_assoc}
 use Rattle.std.specs.Prelude.{flat_map}
 use Rattle.std.specs.List.{list_any, list_all, position_or_len}
-use Rattle.std.specs.List.Sorted.{IsStrictlyIncreasing}
 use Rattle.std.proofs.lemmas.Bool.Decides.{nat_tests}
 use Rattle.std.proofs.lemmas.Simd.{map-map}
 use Rattle.std.proofs.lemmas.List.{map-append}
@@ -28,7 +27,7 @@ use Rattle.text_lines.proofs.Joining.{words-join, is_line-join, goes_on-join, li
 use Rattle.claim_lines.specs.Claim.{Claim, is_level_line, begins_with_level, level_line, has_root}
 use Rattle.site_text.specs.Site.{ProofText, site_part, claim_part, claim_of, proof_of, proof}
 use Rattle.site_text.specs.View.{View}
-use Rattle.audit_text.specs.Canonical.{line, caps_words, account_words, seed_words, cert_words, level_words, flow_words, pass_words, full_words, site_words, claim_words, IsCanonical, IsReadAs}
+use Rattle.audit_text.specs.Canonical.{line, caps_words, account_words, seed_words, cert_words, level_words, flow_words, pass_words, full_words, claim_words, IsCanonical, IsReadAs}
 use Rattle.audit_text.proofs.Spelling.{AreNames}
 use Rattle.audit_text.proofs.Wording.{spaced, IsWorded, AreWorded, all_words, all-worded, caps-worded, account-worded, seed-worded, cert-worded, level-worded, flow-worded, pass-worded, full-worded}
 use Rattle.audit_text.proofs.Recorded.{records, accounts-records, certificates-records}

@@ -15,9 +15,9 @@ ghost use Rattle.audit_text.specs.inner.Writing.{seeds_below, first_given, certs
 
 use frozen::Frozen;
 use itoa::Buffer;
+use name_index::NameIndex;
 use roster_form::LevelRoster;
 use std::alloc::Global;
-use name_index::NameIndex;
 use trust_types::{AccountNo, Cert, CertGraph, FlowLine, Level, MOST_ACCOUNTS, NoMemory, Node};
 
 /// About as many bytes as the line of an account or of a certificate has.

@@ -1,20 +1,18 @@
 -- What a draft tells of the claim so far, and the draft after one line more.
-use Rattle.std.proofs.Common.{◌≡◌, ◌≢◌, ℕ, ◌<◌, Bool, true, false, cond, List, [], ◌∷◌, ◌++◌, length, get_or, set, Option, Some, None, refl, sym, ap, ◌∙◌, arith, nat_eq, ◌&&◌, ◌||◌, inl, inr, is_some, AllPairs, Contains, bytes_eq}
+use Rattle.std.proofs.Common.{◌≡◌, ◌≢◌, ℕ, ◌<◌, Bool, true, false, cond, List, [], ◌∷◌, ◌++◌, length, get_or, set, Option, Some, refl, sym, ap, ◌∙◌, arith, nat_eq, ◌&&◌, ◌||◌, inl, inr, is_some, AllPairs, Contains}
 use Rattle.std.specs.Prelude.{vec_len}
 use Rattle.std.specs.List.{list_any}
 use Rattle.std.proofs.lemmas.Bool.{false≢true, or_parts, eq-eqb}
 use Rattle.std.proofs.lemmas.List.{get_or-set_same, get_or-set_other, get_or_default}
 use Rattle.std.proofs.lemmas.List.Elements.{All-push, Contains-push_cases}
 use Rattle.std.proofs.lemmas.List.Folds.{list_any-append, list_any_at}
-use Rattle.std.proofs.lemmas.List.Quantifiers.{all_pairs_push, position-Some}
+use Rattle.std.proofs.lemmas.List.Quantifiers.{all_pairs_push}
 use Rattle.trust_types.specs.declared.accounts.Node.{Node}
 use Rattle.trust_types.specs.declared.flows.FlowLine.{FlowLine}
-use Rattle.trust_types.specs.NameLists.{number_of}
 use Rattle.trust_types.specs.Lines.{place, same_node}
-use Rattle.text_lines.specs.Numbers.{number}
 use Rattle.pair_map.specs.Pairs.{IsSet, value_at}
 use Rattle.claim_lines.specs.declared.drafts.ClaimDraft.{ClaimDraft}
-use Rattle.claim_lines.specs.Claim.{Claim, is_of_pair, is_placed, units_of}
+use Rattle.claim_lines.specs.Claim.{Claim, is_of_pair, is_placed}
 use Rattle.claim_lines.specs.Drafts.{IsClaimDraft}
 use Rattle.trust_types.specs.Lines.{IsNodeAmong, IsLineAmong}
 use Rattle.claim_lines.proofs.Flowing.{Differ, turned, some_units, no_units, units-push}

@@ -1,5 +1,5 @@
 -- What a draft tells of the records so far, and that it tells it after one record more.
-use Rattle.std.proofs.Common.{bytes_eq, ◌≡◌, ◌≢◌, ℕ, zero, suc, ◌+◌, ◌<◌, ◌≤◌, Bool, true, false, ◌||◌, cond, List, [], ◌∷◌, ◌++◌, length, get_or, set, Option, Some, None, Result, Ok, subst, refl, sym, ◌∙◌, ap, arith, nat_le, nat_lt, nat_eq}
+use Rattle.std.proofs.Common.{bytes_eq, ◌≡◌, ◌≢◌, ℕ, zero, suc, ◌+◌, ◌<◌, ◌≤◌, Bool, true, false, ◌||◌, cond, List, [], ◌∷◌, ◌++◌, length, get_or, set, Option, Some, None, Result, Ok, subst, refl, sym, ◌∙◌, ap, arith, nat_lt, nat_eq}
 use Rattle.std.specs.Prelude.{position, IfSome}
 use Rattle.std.specs.List.{All}
 use Rattle.std.proofs.lemmas.List.{length_push, append-nil, length-set, get_or-set_same, get_or-set_other}

@@ -1,19 +1,16 @@
 -- What a line says by its first word, and that a line that says something is one, since its words are keywords, names and levels.
-use Rattle.std.proofs.Common.{◌≡◌, ℕ, Bool, true, false, List, [], ◌∷◌, ◌++◌, length, Result, Ok, Err, is_err, is_some, refl, sym, ap, ◌∙◌, codes, bytes_eq, subst, nat_eq, nat_le, nat_lt}
+use Rattle.std.proofs.Common.{◌≡◌, ℕ, Bool, true, false, List, [], ◌∷◌, ◌++◌, Result, Ok, Err, is_err, refl, codes, bytes_eq}
 use Rattle.std.specs.List.{list_all}
 use Rattle.std.specs.Option.{ok_or}
 use Rattle.std.proofs.lemmas.Slice.Eq.{bytes_eq-Decides}
-use Rattle.trust_types.specs.declared.graphs.Cert.{Cert}
 use Rattle.trust_types.specs.declared.records.Record.{Record}
 use Rattle.trust_types.specs.Levels.{level_of}
-use Rattle.trust_types.specs.NameLists.{number_of}
 use Rattle.trust_types.specs.Kept.{accounts}
 use Rattle.text_lines.specs.declared.faults.LineFault.{LineFault}
 use Rattle.text_lines.specs.declared.faults.TextKind.TheVariants.{BadLine}
 use Rattle.text_lines.specs.declared.faults.LineFault.TheVariants.{Kind, NoMemory}
 use Rattle.text_lines.specs.Places.{one_word, three_words, name_in}
 use Rattle.text_lines.specs.Reading.{Reads}
-use Rattle.text_lines.specs.Steps.{◌>>=◌}
 use Rattle.text_lines.specs.Words.{words, is_word, is_line}
 use Rattle.text_lines.proofs.Spelled.{is_word-name, is_word-level_of}
 use Rattle.text_lines.proofs.Stepping.{bind-ok, ok_or-ok, one_word-ok, three_words-ok, name_in-ok}
@@ -49,8 +46,12 @@ cert-words k ws x e =
     let pair = bind-ok (pair_in (accounts k) three.0.0 three.0.1) _ whole.0 level.2 in
     let giver = bind-ok (name_in three.0.0) _ pair.0 pair.1 in
     let taker = bind-ok (name_in three.0.1) _ pair.0 giver.2 in
-    rw (three_words-ok ws three.0 three.1, is_word-name three.0.0 (name_in-ok three.0.0 giver.0 giver.1).1, is_word-name three.0.1 (name_in-ok three.0.1 taker.0 taker.1).1,
-    is_word-level_of three.0.2 level.0 (ok_or-ok _ _ level.0 level.1)) refl
+    rw (
+      three_words-ok ws three.0 three.1,
+      is_word-name three.0.0 (name_in-ok three.0.0 giver.0 giver.1).1,
+      is_word-name three.0.1 (name_in-ok three.0.1 taker.0 taker.1).1,
+      is_word-level_of three.0.2 level.0 (ok_or-ok _ _ level.0 level.1),
+    ) refl
 
 keyword : (word other : List ℕ) (ws : List (List ℕ)) → bytes_eq word other ≡ true → is_word other ≡ true → list_all is_word ws ≡ true → list_all is_word (word ∷ ws) ≡ true
 keyword word other ws same is each = rw ((bytes_eq-Decides word other).0 same, is, each) refl

@@ -1,5 +1,5 @@
 -- What a text says, by the parts of it that are read one after another.
-use Rattle.std.proofs.Common.{ℕ, ◌≡◌, ◌+◌, List, [], ◌∷◌, Result, Ok, length}
+use Rattle.std.proofs.Common.{ℕ, ◌+◌, List, [], Result, Ok, length}
 use Rattle.trust_types.specs.declared.levels.Level.{Level}
 use Rattle.trust_types.specs.declared.records.Record.{Record}
 use Rattle.trust_types.specs.Kept.{accounts}

@@ -5,7 +5,6 @@ use Rattle.std.proofs.lemmas.List.{length_push}
 use Rattle.trust_types.specs.declared.records.Record.{Record}
 use Rattle.text_lines.specs.declared.faults.TextKind.{TextKind}
 use Rattle.text_lines.specs.declared.faults.TextKind.TheVariants.{BadLine}
-use Rattle.text_lines.specs.declared.faults.TextFault.{TextFault}
 use Rattle.text_lines.specs.Words.{lines, is_end, words, is_line}
 use Rattle.text_lines.specs.Reading.{reading}
 use Rattle.text_lines.specs.Steps.{fault_unless}

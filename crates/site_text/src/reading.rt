@@ -20,11 +20,11 @@ use crate::faults::SiteFault;
 use claim_lines::{ClaimDraft, ClaimParts, is_level_line, read_level};
 use cut_check::Proof;
 use frozen::Frozen;
+use name_index::NameIndex;
 use site_lines::{SiteDraft, SiteParts, read_table};
 use std::alloc::Global;
 use std::sync::Arc;
 use text_lines::{Lines, TextFault, TextKind, at_line, fault_unless};
-use name_index::NameIndex;
 use trust_types::{Caps, CertList, Level, MOST_ACCOUNTS, NoMemory};
 
 /// The lines of a site, read, and the `level` line that ended them, where one did.

@@ -1,4 +1,4 @@
-use Rattle.std.proofs.Common.{ℕ, ◌≡◌, ◌+◌, ◌∷◌, List, Ok, Err, true, length, refl, ap, sym, ◌∙◌, arith}
+use Rattle.std.proofs.Common.{ℕ, ◌≡◌, ◌+◌, List, Ok, length, refl, ap, sym, ◌∙◌, arith}
 use Rattle.text_lines.specs.Words.{lines}
 use Rattle.text_lines.specs.Reading.{reading}
 use Rattle.text_lines.specs.Steps.{◌>>=◌, at_line, fault_unless}

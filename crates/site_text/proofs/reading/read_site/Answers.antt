@@ -1,4 +1,4 @@
-use Rattle.std.proofs.Common.{ℕ, ◌≡◌, ◌+◌, ◌<◌, [], ◌∷◌, List, None, Ok, Err, length, All, subst, ap, sym, ◌∙◌, arith}
+use Rattle.std.proofs.Common.{ℕ, ◌≡◌, ◌+◌, ◌<◌, [], List, None, Ok, Err, length, All, subst, ap, sym, ◌∙◌, arith}
 use Rattle.std.specs.Prelude.{IfSome, option_map}
 use Rattle.std.specs.List.{before_first}
 use Rattle.std.proofs.lemmas.List.{length-drop}
@@ -14,7 +14,7 @@ use Rattle.site_lines.specs.Site.{site_line}
 use Rattle.site_lines.proofs.Graphs.{parts_graph}
 use Rattle.site_text.specs.Faults.{fault_of}
 use Rattle.site_text.specs.declared.faults.SiteFault.TheVariants.{Text}
-use Rattle.site_text.specs.inner.Parts.{ends_site, claim_number}
+use Rattle.site_text.specs.inner.Parts.{claim_number}
 use Rattle.site_text.specs.Site.{site_of, table_of, behind_first}
 use Rattle.site_text.specs.View.{IsFrozenOf}
 use Rattle.site_text.proofs.Composing.{with_table, with_records}

@@ -1,4 +1,4 @@
-use Rattle.std.proofs.Common.{ℕ, ◌≡◌, ◌+◌, [], ◌∷◌, Bool, List, true, false, length, ap, sym, ◌∙◌, arith}
+use Rattle.std.proofs.Common.{ℕ, ◌≡◌, ◌+◌, [], ◌∷◌, Bool, List, false, length, ap, sym, ◌∙◌, arith}
 use Rattle.std.specs.List.{before_first}
 use Rattle.text_lines.specs.Words.{lines}
 use Rattle.text_lines.specs.Reading.{reading, fault_at}

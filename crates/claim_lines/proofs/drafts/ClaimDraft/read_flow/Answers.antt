@@ -1,8 +1,8 @@
-use Rattle.std.proofs.Common.{◌≡◌, sym, ap, ◌∙◌, ◌∷◌, ◌++◌, [], length, refl, is_some, Some, Ok}
+use Rattle.std.proofs.Common.{◌≡◌, sym, ap, ◌∙◌, ◌∷◌, ◌++◌, [], length, refl, Some, Ok}
 use Rattle.std.specs.List.{list_any}
 use Rattle.trust_types.specs.declared.flows.FlowLine.{FlowLine}
 use Rattle.trust_types.specs.Lines.{place}
-use Rattle.pair_map.specs.Pairs.{IsSet, value_at}
+use Rattle.pair_map.specs.Pairs.{IsSet}
 use Rattle.text_lines.specs.declared.faults.TextKind.TheVariants.{Twice}
 use Rattle.text_lines.specs.Steps.{◌>>=◌, fault_if}
 use Rattle.text_lines.proofs.Stepping.{refused, passed, fault_if-ok}

@@ -1,4 +1,4 @@
-use Rattle.std.proofs.Common.{◌≡◌, ℕ, Bool, true, false, sym, ap, ◌∙◌, length, refl, subst, set, Ok}
+use Rattle.std.proofs.Common.{◌≡◌, ℕ, true, false, sym, ap, ◌∙◌, length, refl, set, Ok}
 use Rattle.trust_types.specs.declared.accounts.Node.{Node}
 use Rattle.text_lines.specs.declared.faults.TextKind.TheVariants.{Twice}
 use Rattle.text_lines.specs.Steps.{◌>>=◌, fault_if}

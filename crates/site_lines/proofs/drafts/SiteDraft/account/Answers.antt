@@ -1,4 +1,4 @@
-use Rattle.std.proofs.Common.{◌≡◌, ap, sym, ◌∙◌, ◌∷◌, ◌++◌, [], refl, Ok}
+use Rattle.std.proofs.Common.{ap, sym, ◌∙◌, ◌∷◌, ◌++◌, [], refl, Ok}
 use Rattle.text_lines.specs.Steps.{◌>>=◌}
 use Rattle.text_lines.proofs.Stepping.{refused}
 use Rattle.trust_types.specs.Kept.{accounts}

@@ -1,4 +1,4 @@
-use Rattle.std.proofs.Common.{subst, ◌∙◌, sym}
+use Rattle.std.proofs.Common.{subst, ◌∙◌}
 use Rattle.std.specs.Prelude.{◌↔◌, Contains, IsTrue, ℕ}
 use Rattle.trust_types.specs.Kept.{certs_of}
 use Rattle.site_lines.specs.Drafts.{flag}

@@ -1,4 +1,4 @@
-use Rattle.std.proofs.Common.{◌≡◌, ap, sym, ◌∙◌, ◌∷◌, ◌++◌, [], refl, Ok, length, subst, ◌<◌}
+use Rattle.std.proofs.Common.{ap, sym, ◌∙◌, ◌∷◌, ◌++◌, [], refl, Ok, length, subst, ◌<◌}
 use Rattle.text_lines.specs.declared.faults.TextKind.TheVariants.{Twice}
 use Rattle.text_lines.specs.Steps.{◌>>=◌, fault_if}
 use Rattle.text_lines.proofs.Stepping.{refused, passed}
