@@ -28,7 +28,7 @@ fn a_sink_takes_pieces_while_it_has_room_and_fails_at_its_third_write(
     for answer in [Ok(3), Ok(3), Err(Failed), Ok(1), Err(Failed)] {
         assert_eq!(rt; sink.write(&TEXT), answer);
     }
-    assert_eq!(rt; sink.bytes(), b"levlevl");
+    assert_eq!(rt; sink.bytes(), b"levlevl".as_slice());
     Ok(())
 }
 
@@ -38,9 +38,9 @@ fn a_text_is_written_and_read_whole_or_up_to_a_fault(rt: HostRuntime) -> Result<
     let mut sink = MemSink::new(alloc, 9, 2, vec![in alloc; 4]?)?;
     assert_eq!(rt; write_all(&mut sink, &TEXT), Ok(()));
     assert_eq!(rt; write_all(&mut sink, &TEXT), Err(Failed));
-    assert_eq!(rt; sink.bytes(), b"levelle");
+    assert_eq!(rt; sink.bytes(), b"levelle".as_slice());
     let mut source = MemSource::new(TEXT.to_vec(alloc)?, 2, vec![in alloc; 4]?);
-    assert!(rt; read_to_end(alloc, &mut source, 5).is_ok_and(|bytes| bytes == TEXT.as_slice()));
+    assert!(rt; read_to_end(alloc, &mut source, 5).is_ok_and(|bytes| bytes.as_slice() == TEXT.as_slice()));
     assert!(rt; read_to_end(alloc, &mut source, 5) == Err(InputFault::Failed));
     Ok(())
 }
