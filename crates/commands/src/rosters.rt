@@ -10,11 +10,11 @@ ghost use Rattle.commands.specs.Answers.{AreRosterLines, IsRosterLine, roster_li
 
 use crate::command::Asked;
 use frozen::Frozen;
+use name_index::NameIndex;
 use roster_form::{Candidate, LevelRoster};
 use solver::{solve_alone, solve_one};
 use std::alloc::Global;
 use std::sync::Arc;
-use name_index::NameIndex;
 use trust_types::{AccountNo, Level, NoMemory};
 
 /// The lines of the rosters that are asked for, lowest grade first.
