@@ -99,7 +99,8 @@ impl Script {
         let status = format!(in alloc; "[{}]\n", told.status.code())?;
         self.printed.extend_from_slice(status.as_bytes())?;
         if told.differs {
-            self.printed.extend_from_slice(b"! not so in other pieces\n")?;
+            self.printed
+                .extend_from_slice(b"! not so in other pieces\n")?;
         }
         Ok(())
     }

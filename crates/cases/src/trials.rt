@@ -8,6 +8,7 @@ use trust_types::NoMemory;
 
 /// The size of the pieces in which each run is tried first, and the others.
 const PIECE: usize = 65_536;
+
 const OTHERS: [usize; 2] = [7, 1];
 
 /// What a run wrote, how it ended, and whether it did otherwise in pieces of another size.

@@ -1,7 +1,6 @@
 -- The text of an audit is no longer than what `check` takes: of its lines at most 100,000 are of accounts and as many of seeds, 2,000,000 of
 -- certificates, one of the flow for each seed and certificate, and one of each side of the cut for each node.
-use Rattle.std.proofs.Common.{ℕ, ◌≡◌, ◌<◌, ◌≤◌, ◌+◌, List, ◌++◌, length, get_or, All, IsTrue, ap, sym, subst, ◌∙◌, arith, inl, inr, false}
-use Rattle.std.specs.List.{flat_map}
+use Rattle.std.proofs.Common.{ℕ, ◌≡◌, ◌<◌, ◌≤◌, ◌+◌, List, length, get_or, All, IsTrue, ap, sym, ◌∙◌, arith, inl, inr, false}
 use Rattle.std.proofs.lemmas.Bool.{cases_lt, false≢true}
 use Rattle.std.proofs.lemmas.List.{get_or_past}
 use Rattle.std.proofs.lemmas.List.Elements.{Contains-get_or}
@@ -12,7 +11,7 @@ use Rattle.trust_types.specs.Lines.{place}
 use Rattle.trust_types.specs.Proven.{Lists}
 use Rattle.frozen.specs.Revision.{Revision, certificates}
 use Rattle.roster_form.specs.Candidates.{IsSound}
-use Rattle.audit_text.specs.Canonical.{line, site_words, claim_words, IsCanonical}
+use Rattle.audit_text.specs.Canonical.{site_words, claim_words, IsCanonical}
 use Rattle.site_text.specs.View.{of_frozen}
 use Rattle.commands.proofs.Counts.{rising_between, flow_few}
 use Rattle.commands.proofs.Sizes.{size, size-append, site_short, claim_short}

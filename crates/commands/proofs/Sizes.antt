@@ -1,5 +1,5 @@
 -- How many bytes the canonical text of a proof has at most.
-use Rattle.std.proofs.Common.{ℕ, suc, ◌≡◌, ◌<◌, ◌≤◌, ◌+◌, ◌*◌, ◌^◌, List, [], ◌∷◌, ◌++◌, length, get_or, map, All, IsTrue, codes, decimal, sym, subst, ◌∙◌, ap, arith, inl, inr, ◌⊎◌, ◌&&◌, nat_le, true}
+use Rattle.std.proofs.Common.{ℕ, suc, ◌≡◌, ◌<◌, ◌≤◌, ◌+◌, ◌*◌, ◌^◌, List, [], ◌∷◌, ◌++◌, length, get_or, map, All, codes, decimal, sym, subst, ◌∙◌, ap, arith, inl, inr}
 use Rattle.std.specs.List.{flat_map, join_with_byte, sum_by}
 use Rattle.std.proofs.lemmas.Bool.{cases_lt}
 use Rattle.std.proofs.lemmas.Bool.Decides.{nat_tests}
@@ -16,7 +16,7 @@ use Rattle.trust_types.specs.declared.accounts.Node.TheVariants.{Root, Account}
 use Rattle.trust_types.specs.declared.graphs.Cert.{Cert}
 use Rattle.trust_types.specs.declared.flows.FlowLine.{FlowLine}
 use Rattle.trust_types.specs.Levels.{level_name}
-use Rattle.trust_types.specs.Names.{is_name, IsName}
+use Rattle.trust_types.specs.Names.{IsName}
 use Rattle.trust_types.specs.NodeWords.{name_of, node_name}
 use Rattle.trust_types.specs.Proven.{Lists}
 use Rattle.trust_types.specs.Tables.{IsTable}

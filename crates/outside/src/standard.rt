@@ -92,4 +92,3 @@ impl Sink for StdSink {
         Ok(write_counted(&mut self.stdout, piece, &mut self.faults)?)
     }
 }
-

@@ -37,10 +37,19 @@ fn a_crowd_gets_what_its_bridge_can_give(rt: HostRuntime) -> Result<(), Fail> {
     }
     let mut queue = Queue::reserve(rt.alloc(), 5)?;
     let mut by_number = [0; 5];
-    capacities(&*frozen, Level::Master, frozen.caps(), &mut by_number, &mut queue);
+    capacities(
+        &*frozen,
+        Level::Master,
+        frozen.caps(),
+        &mut by_number,
+        &mut queue,
+    );
     assert_eq!(rt; by_number, [4, 2, 1, 1, 1]);
     let members = [false, false, true, true, true];
-    assert_eq!(rt; attack_bound(&*frozen, Level::Master, &by_number, &members), 1);
+    assert_eq!(rt;
+        attack_bound(&*frozen, Level::Master, &by_number, &members),
+        1
+    );
     let roster = solve_one(rt.alloc(), &frozen, Level::Master)?;
     assert!(rt; roster.has(AccountNo(2)) && !roster.has(AccountNo(3)) && !roster.has(AccountNo(4)));
     Ok(())

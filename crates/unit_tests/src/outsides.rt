@@ -1,5 +1,6 @@
 use outside::{
-    Failed, InputFault, MemSink, MemSource, Sink, Source, StdSink, StdSource, read_to_end, write_all,
+    Failed, InputFault, MemSink, MemSource, Sink, Source, StdSink, StdSource, read_to_end,
+    write_all,
 };
 use std::test::Fail;
 
@@ -40,7 +41,9 @@ fn a_text_is_written_and_read_whole_or_up_to_a_fault(rt: HostRuntime) -> Result<
     assert_eq!(rt; write_all(&mut sink, &TEXT), Err(Failed));
     assert_eq!(rt; sink.bytes(), b"levelle".as_slice());
     let mut source = MemSource::new(TEXT.to_vec(alloc)?, 2, vec![in alloc; 4]?);
-    assert!(rt; read_to_end(alloc, &mut source, 5).is_ok_and(|bytes| bytes.as_slice() == TEXT.as_slice()));
+    assert!(rt;
+        read_to_end(alloc, &mut source, 5).is_ok_and(|bytes| bytes.as_slice() == TEXT.as_slice())
+    );
     assert!(rt; read_to_end(alloc, &mut source, 5) == Err(InputFault::Failed));
     Ok(())
 }
@@ -49,5 +52,8 @@ fn a_text_is_written_and_read_whole_or_up_to_a_fault(rt: HostRuntime) -> Result<
 fn the_machine_answers(rt: HostRuntime) {
     let mut into = [0; 16];
     assert!(rt; StdSource::new(&rt).read(&mut into).is_ok());
-    assert_eq!(rt; write_all(&mut StdSink::new(&rt), b"a line of a test\n"), Ok(()));
+    assert_eq!(rt;
+        write_all(&mut StdSink::new(&rt), b"a line of a test\n"),
+        Ok(())
+    );
 }

@@ -11,7 +11,7 @@ use split_graph::Residual;
 use std::marker::Brand;
 use std::sync::ledger::{Blank, Ledger};
 use std::test::Fail;
-use trust_types::{AccountNo, CertGraph, Level, Side, Node, Steps};
+use trust_types::{AccountNo, CertGraph, Level, Node, Side, Steps};
 
 /// Solves a site at the lowest level and then again at the highest.
 fn solve_at_master<L: Ledger>(workspace: &mut Workspace, frozen: &Frozen, blank: Blank)
@@ -95,7 +95,8 @@ fn load(frozen: &Frozen, level: Level, queue: &mut Queue, residual: &mut Residua
 
 #[test]
 fn a_level_has_its_arcs(rt: HostRuntime) -> Result<(), Fail> {
-    let text = b"caps default\naccount a\naccount b\naccount c\nseed a\ncert a b Master\ncert a c Apprentice\n";
+    let text =
+        b"caps default\naccount a\naccount b\naccount c\nseed a\ncert a b Master\ncert a c Apprentice\n";
     let frozen = site(rt.alloc(), text)?;
     if frozen.accounts() != 3 {
         return Err("three accounts".into());
@@ -104,7 +105,11 @@ fn a_level_has_its_arcs(rt: HostRuntime) -> Result<(), Fail> {
     let mut residual = Residual::reserve(rt.alloc(), 3, frozen.certs())?;
     load(&frozen, Level::Master, &mut queue, &mut residual);
     for node in 0..10 {
-        assert_eq!(rt; residual.first(node), FIRSTS[node as usize], "of node {node}");
+        assert_eq!(rt;
+            residual.first(node),
+            FIRSTS[node as usize],
+            "of node {node}"
+        );
     }
     if residual.first(9) != 20 {
         return Err("twenty arcs".into());

@@ -1,4 +1,4 @@
-use Rattle.outside.proofs.Kept.{Keeps-same, Keeps-then}
+use Rattle.outside.proofs.Kept.{Keeps-same}
 use Rattle.outside.proofs.counted.flush_uninterrupted.Goals as goal
 
 pub loop-init : goal.loop-init
