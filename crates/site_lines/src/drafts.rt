@@ -57,7 +57,7 @@ impl SiteDraft {
     ///
     /// # Errors
     /// [`LineFault::Kind`] where the line has a fault, with its kind, unless memory ran out, and only there;
-    /// [`LineFault::NoMemory`] where memory ran out. The draft is of no more use then.
+    /// [`LineFault::NoMemory`] where memory ran out. What the draft holds after an error is open.
     #[tactic(auto, unfolding(crate::specs::Site::site_line))]
     pub fn read(&mut self, line: &[u8]) -> Result<(), LineFault>
         ensures { (k : List Record) → IsSiteDraft self.old k → Reads IsSiteDraft result self.new (site_line k line.now) }

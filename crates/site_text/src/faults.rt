@@ -10,7 +10,7 @@ use trust_types::NoMemory;
 /// Why a text gave no site or no proof.
 #[derive(Clone, Copy, Debug, Drop, PartialEq, Eq, Error)]
 pub enum SiteFault {
-    /// It is none of its form: its first bad line, and the kind of that line's fault.
+    /// It is malformed: its first bad line, and the kind of that line's fault.
     #[error("the text has a bad line")]
     Text(TextFault),
     /// Memory ran out.

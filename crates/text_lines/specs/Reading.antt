@@ -15,7 +15,7 @@ reading step number state (line ∷ others) = elim (step state line) [
 ]
 
 -- What became of a draft that reads one line more, and what the line says. `Is draft state`: the draft is one of that
--- state. A line that is read leaves a draft of what it says, a fault is the line's own, and want of memory tells nothing.
+-- state. A line that is read leaves a draft of what it says, a fault is the line's own, and running out of memory tells nothing.
 abbrev pub Reads : {S D : Type 0} → (D → S → Type 0) → Result (Unit {0}) LineFault → D → Result S TextKind → Type 0
 Reads {S} Is (Ok u) new said = (state : S) × (said ≡ Ok state) × Is new state
 Reads Is (Err NoMemory) new said = Unit {0}

@@ -1,4 +1,4 @@
-//! Why a text is none of its form.
+//! Why a text is malformed.
 
 ghost use Rattle.std.specs.Prelude.{◌≡◌, IfOk};
 ghost use Rattle.text_lines.specs.declared.faults.LineFault.TheVariants.{Kind as KindOf, NoMemory as NoMemoryLeft};

@@ -17,7 +17,7 @@ pub fn is_same(word: &[u8], other: &[u8]) -> bool
 /// The name that stands in a name's place.
 ///
 /// # Errors
-/// [`TextKind::BadName`] exactly where the word is none.
+/// [`TextKind::BadName`] exactly where the word is not a name.
 pub fn name_in(word: &[u8]) -> Result<Name, TextKind>
     ensures { result ≡ name_in word.now }
 {
