@@ -16,7 +16,7 @@ fn a_source_gives_its_bytes_in_pieces_and_fails_at_its_third_read(
     for answer in [Ok(2), Ok(2), Err(Failed), Ok(1), Ok(0), Ok(0)] {
         assert_eq!(rt; source.read(&mut into), answer);
     }
-    assert_eq!(rt; into, *b"lvel");
+    assert_eq!(rt; into, *b"le\0\0");
     Ok(())
 }
 
