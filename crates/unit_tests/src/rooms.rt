@@ -1,4 +1,4 @@
-ghost use Rattle.std.specs.Prelude.{◌≡◌, ◌<◌};
+ghost use Rattle.std.specs.Prelude.{◌≡◌, ◌<◌, Some};
 ghost use Rattle.trust_types.specs.Levels.{IsGrade};
 ghost use Rattle.frozen.specs.Revision.{certificates};
 ghost use Rattle.split_graph.specs.Network.{Fits, StandsFor};
@@ -19,7 +19,7 @@ fn solve_at_master<L: Ledger>(workspace: &mut Workspace, frozen: &Frozen, blank:
     requires parts { blank.parts ≡ L.parts }
     requires some { 0 < blank.parts }
     requires room { Fits frozen.now workspace.old.network.room }
-    ensures graph { workspace.new.network.graph ≡ frozen.now }
+    ensures graph { workspace.new.network.graph ≡ Some frozen.now }
 {
     let mut steps = Steps::<L>::new(blank);
     workspace.solve(frozen, Level::Apprentice, &mut steps);
@@ -46,35 +46,35 @@ fn a_workspace_may_have_more_room_than_a_site_needs(rt: HostRuntime) -> Result<(
 const NO_BOUND: u32 = 4_294_967_295;
 
 /// The first arc of each split node of the site below, and the number of arcs.
-const FIRSTS: [u32; 10] = [0, 1, 3, 6, 9, 12, 13, 16, 17, 20];
+const FIRSTS: [u32; 10] = [0, 3, 4, 6, 9, 12, 15, 16, 19, 20];
 
-/// The node that each arc enters, and what rests on it at Master.
+/// The split node that each arc enters, by number, and what rests on it at Master.
 const ARCS: [(u32, u32); 20] = [
-    // of the root's halves: through it and back, and to the seed
-    (1, 799),
-    (0, 0),
-    (2, NO_BOUND),
-    // of the seed's: through it, to the supersink, back to the root; back through it, and to the two that it certifies
-    (3, 199),
-    (8, 1),
-    (1, 0),
-    (2, 0),
-    (4, NO_BOUND),
-    (6, 0),
-    // of those of the one that it certifies as Master
-    (5, 49),
-    (8, 1),
-    (3, 0),
-    (4, 0),
-    // and as Apprentice: it has no capacity
-    (7, 0),
-    (8, 1),
-    (3, 0),
-    (6, 0),
     // back out of the supersink
+    (3, 0),
+    (5, 0),
+    (7, 0),
+    // of the root's halves: through it and back, and to the seed
+    (2, 799),
+    (1, 0),
+    (3, NO_BOUND),
+    // of the seed's: through it, to the supersink, back to the root; back through it, and to the two that it certifies
+    (4, 199),
+    (0, 1),
     (2, 0),
+    (3, 0),
+    (5, NO_BOUND),
+    (7, 0),
+    // of those of the one that it certifies as Master
+    (6, 49),
+    (0, 1),
     (4, 0),
-    (6, 0),
+    (5, 0),
+    // and as Apprentice: it has no capacity
+    (8, 0),
+    (0, 1),
+    (4, 0),
+    (7, 0),
 ];
 
 /// Loads a site of three accounts at a level, with its capacities there.
@@ -83,13 +83,13 @@ fn load(frozen: &Frozen, level: Level, queue: &mut Queue, residual: &mut Residua
     requires accounts { (certificates frozen.now).accounts ≡ 3 }
     requires room { Fits frozen.now residual.old.room }
     requires queue { queue.old ≡ 3 }
-    ensures graph { residual.new.graph ≡ frozen.now }
-    ensures room { residual.new.room ≡ residual.old.room }
+    ensures accounts { residual.new.arcs.accounts ≡ 3 }
     ensures stands { StandsFor residual.new }
     ensures queue { queue.new ≡ 3 }
 {
     let mut caps_of = [0; 3];
     capacities(frozen, level, frozen.caps(), &mut caps_of, queue);
+    residual.lay_out(frozen);
     residual.load(frozen, level, &caps_of);
 }
 
