@@ -7,7 +7,7 @@ what fails, with status 1.
 import sys
 from collections import Counter, deque
 
-LEVELS, ROOT = ["Observer", "Apprentice", "Journeyer", "Master"], "-"
+LEVELS, ROOT = ["Observer", "Apprentice", "Journeyer", "Master", "Fellow", "Warden", "Elder"], "-"
 
 
 def refuse(*why):

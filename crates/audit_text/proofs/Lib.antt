@@ -5,6 +5,7 @@ mod Placed
 mod SiteSteps
 mod ClaimSteps
 mod CapsLine
+mod Heading
 mod ReadingBack
 mod Written
 mod GraphLists

@@ -4,16 +4,18 @@ use Rattle.std.specs.Prelude.{fold}
 use Rattle.std.specs.List.{list_any}
 use Rattle.std.proofs.lemmas.Bool.{false≢true}
 use Rattle.std.proofs.lemmas.List.{append-nil}
-use Rattle.std.proofs.lemmas.List.Elements.{filter_map-append, All-nil, All-cons, All-contains, Contains-append_right}
-use Rattle.std.proofs.lemmas.List.Folds.{list_any-append, list_any_at, Any-from_list_any}
+use Rattle.std.proofs.lemmas.List.Elements.{All-nil, All-cons, All-contains, Contains-append_right}
+use Rattle.std.proofs.lemmas.List.Folds.{list_any_at, Any-from_list_any}
 use Rattle.trust_types.specs.declared.levels.Level.{Level}
-use Rattle.trust_types.specs.declared.levels.Level.TheVariants.{Observer, Apprentice, Journeyer, Master}
+use Rattle.trust_types.specs.declared.levels.Level.TheVariants.{Observer, Apprentice, Journeyer, Master, Fellow, Warden, Elder}
 use Rattle.trust_types.specs.declared.graphs.Cert.{Cert}
 use Rattle.trust_types.specs.declared.records.Record.{Record}
 use Rattle.trust_types.specs.Levels.{IsGrade}
 use Rattle.trust_types.specs.Graph.{Certificates}
 use Rattle.trust_types.specs.Certs.{IsMadeOf}
-use Rattle.trust_types.specs.Kept.{accounts, joined_name, is_seed, names_seed, certs_of, cert_of, kept_certificates, standing_among, level_after, is_of_pair, standing_count, stands, standing}
+use Rattle.trust_types.specs.Changes.{seed_after, standing_among, level_after, is_of_pair, standing_count, stands}
+use Rattle.trust_types.specs.Kept.{changes, accounts, is_seed, certs_of, kept_certificates, standing}
+use Rattle.trust_types.proofs.Changing.{accounts-append, certs_of-append, is_seed-append}
 use Rattle.site_lines.specs.Site.{join, seed, cert}
 
 abbrev pub cert_record : Cert → Record
@@ -37,8 +39,8 @@ accounts-certs (c ∷ certs) = accounts-certs certs
 
 pub accounts-records : (names : List (List ℕ)) (seeds : List ℕ) (certs : List Cert) → accounts (records names seeds certs) ≡ names
 accounts-records names seeds certs =
-    filter_map-append joined_name (map join names ++ map seed seeds) (map cert_record certs)
-    ∙ ap (λ x. x ++ accounts (map cert_record certs)) (filter_map-append joined_name (map join names) (map seed seeds))
+    accounts-append (map join names ++ map seed seeds) (map cert_record certs)
+    ∙ ap (λ x. x ++ accounts (map cert_record certs)) (accounts-append (map join names) (map seed seeds))
     ∙ rw (accounts-joins names, accounts-seeds seeds, accounts-certs certs) (append-nil (names ++ []) ∙ append-nil names)
 
 certs-joins : (names : List (List ℕ)) → certs_of (map join names) ≡ []
@@ -55,24 +57,33 @@ certs-certs (c ∷ certs) = ap (λ others. c ∷ others) (certs-certs certs)
 
 pub certs-records : (names : List (List ℕ)) (seeds : List ℕ) (certs : List Cert) → certs_of (records names seeds certs) ≡ certs
 certs-records names seeds certs =
-    filter_map-append cert_of (map join names ++ map seed seeds) (map cert_record certs)
-    ∙ ap (λ x. x ++ certs_of (map cert_record certs)) (filter_map-append cert_of (map join names) (map seed seeds))
+    certs_of-append (map join names ++ map seed seeds) (map cert_record certs)
+    ∙ ap (λ x. x ++ certs_of (map cert_record certs)) (certs_of-append (map join names) (map seed seeds))
     ∙ rw (certs-joins names, certs-seeds seeds, certs-certs certs) refl
 
 abbrev pub is_among : ℕ → List ℕ → Bool
 is_among a seeds = list_any (λ b. a == b) seeds
 
-seeds-joins : (a : ℕ) (names : List (List ℕ)) → is_seed (map join names) a ≡ false
-seeds-joins a [] = refl
-seeds-joins a (name ∷ names) = seeds-joins a names
+-- Whether an account is a seed after more records, from whether it was one before.
+abbrev seed_behind : ℕ → Bool → List Record → Bool
+seed_behind a before k = fold (seed_after a) before (changes k)
 
-seeds-seeds : (a : ℕ) (seeds : List ℕ) → is_seed (map seed seeds) a ≡ is_among a seeds
-seeds-seeds a [] = refl
-seeds-seeds a (b ∷ seeds) = ap (λ others. (a == b) || others) (seeds-seeds a seeds)
+seeds-joins : (a : ℕ) (before : Bool) (names : List (List ℕ)) → seed_behind a before (map join names) ≡ before
+seeds-joins a before [] = refl
+seeds-joins a before (name ∷ names) = seeds-joins a before names
 
-seeds-certs : (a : ℕ) (certs : List Cert) → is_seed (map cert_record certs) a ≡ false
-seeds-certs a [] = refl
-seeds-certs a (c ∷ certs) = seeds-certs a certs
+one_more : (same others before : Bool) → (others || (if same then true else before)) ≡ ((same || others) || before)
+one_more true true before = refl
+one_more true false before = refl
+one_more false others before = refl
+
+seeds-seeds : (a : ℕ) (before : Bool) (seeds : List ℕ) → seed_behind a before (map seed seeds) ≡ (is_among a seeds || before)
+seeds-seeds a before [] = refl
+seeds-seeds a before (b ∷ seeds) = seeds-seeds a (if a == b then true else before) seeds ∙ one_more (a == b) (is_among a seeds) before
+
+seeds-certs : (a : ℕ) (before : Bool) (certs : List Cert) → seed_behind a before (map cert_record certs) ≡ before
+seeds-certs a before [] = refl
+seeds-certs a before (c ∷ certs) = seeds-certs a before certs
 
 or_false : (b : Bool) → (b || false) ≡ b
 or_false true = refl
@@ -80,9 +91,12 @@ or_false false = refl
 
 pub is_seed-records : (names : List (List ℕ)) (seeds : List ℕ) (certs : List Cert) (a : ℕ) → is_seed (records names seeds certs) a ≡ is_among a seeds
 is_seed-records names seeds certs a =
-    list_any-append (names_seed a) (map join names ++ map seed seeds) (map cert_record certs)
-    ∙ ap (λ x. x || is_seed (map cert_record certs) a) (list_any-append (names_seed a) (map join names) (map seed seeds))
-    ∙ rw (seeds-joins a names, seeds-certs a certs, seeds-seeds a seeds) (or_false (is_among a seeds))
+    is_seed-append (map join names ++ map seed seeds) (map cert_record certs) a
+    ∙ seeds-certs a (is_seed (map join names ++ map seed seeds) a) certs
+    ∙ is_seed-append (map join names) (map seed seeds) a
+    ∙ seeds-seeds a (is_seed (map join names) a) seeds
+    ∙ ap (λ before. is_among a seeds || before) (seeds-joins a false names)
+    ∙ or_false (is_among a seeds)
 
 -- No more certificates stand than there are.
 count_by_one : (b : Bool) (n m : ℕ) → n ≤ m → (if b then 1 else 0) + n ≤ 1 + m
@@ -137,6 +151,9 @@ observer_by Observer none = refl
 observer_by Apprentice none = absurd (none (λ e. cc))
 observer_by Journeyer none = absurd (none (λ e. cc))
 observer_by Master none = absurd (none (λ e. cc))
+observer_by Fellow none = absurd (none (λ e. cc))
+observer_by Warden none = absurd (none (λ e. cc))
+observer_by Elder none = absurd (none (λ e. cc))
 
 of_itself : (a b : ℕ) (level : Level) → is_of_pair a b (of_pair a b level) ≡ true
 of_itself a b level = grind arith

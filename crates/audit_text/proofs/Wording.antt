@@ -8,14 +8,15 @@ use Rattle.trust_types.specs.declared.accounts.Node.{Node}
 use Rattle.trust_types.specs.declared.flows.FlowLine.{FlowLine}
 use Rattle.trust_types.specs.declared.graphs.Cert.{Cert}
 use Rattle.trust_types.specs.Names.{IsName}
-use Rattle.trust_types.specs.Tables.{IsTable}
+use Rattle.trust_types.specs.Tables.{AreEntries, IsLevelCount}
 use Rattle.trust_types.specs.Lines.{place}
 use Rattle.trust_types.specs.Certs.{IsCertAmong}
 use Rattle.text_lines.specs.Words.{is_word}
 use Rattle.text_lines.proofs.Decimals.{is_word-decimal}
 use Rattle.text_lines.proofs.Joining.{and_true}
 use Rattle.trust_types.specs.NodeWords.{name_of, node_name}
-use Rattle.audit_text.specs.Canonical.{caps_words, account_words, seed_words, cert_words, level_words, flow_words, pass_words, full_words}
+use Rattle.audit_text.specs.Canonical.{account_words, seed_words, cert_words, level_words, flow_words, pass_words, full_words}
+use Rattle.audit_text.specs.inner.Writing.{entries_words, count_words}
 use Rattle.text_lines.proofs.Spelled.{is_word-name, is_word-level}
 use Rattle.audit_text.proofs.Spelling.{AreNames, name_at, node_word}
 
@@ -36,8 +37,8 @@ AreWorded wss = list_all all_words wss ≡ true
 abbrev pub IsSmall : ℕ → Type 0
 IsSmall n = n < 2 ^ 32
 
-pub small-IsTable : (entries : List ℕ) → IsTable entries → All IsSmall entries
-small-IsTable entries is k d inside =
+pub small-AreEntries : (entries : List ℕ) → AreEntries entries → All IsSmall entries
+small-AreEntries entries is k d inside =
     let same : get_or entries k d ≡ get_or entries k 0 = get_or_default_zero entries k d inside in
     omega (arith, is.most k inside)
 
@@ -47,8 +48,11 @@ decimals-worded (n ∷ entries) small =
     let first : n < 2 ^ 32 = All-head IsSmall n entries small in
     and_true (is_word (decimal n)) (list_all is_word (map decimal entries)) (is_word-decimal n (omega arith)) (decimals-worded entries (All-tail IsSmall n entries small))
 
-pub caps-worded : (entries : List ℕ) → IsTable entries → IsWorded (caps_words entries)
-caps-worded entries is = decimals-worded entries (small-IsTable entries is)
+pub entries-worded : (entries : List ℕ) → AreEntries entries → IsWorded (entries_words entries)
+entries-worded entries is = decimals-worded entries (small-AreEntries entries is)
+
+pub count-worded : (levels : ℕ) → IsLevelCount levels → IsWorded (count_words levels)
+count-worded levels is = let word : is_word (decimal levels) ≡ true = is_word-decimal levels (omega (arith, is.1)) in rw word refl
 
 pub account-worded : (name : List ℕ) → IsName name → IsWorded (account_words name)
 account-worded name named = let word : is_word name ≡ true = is_word-name name named in rw word refl

@@ -1,5 +1,5 @@
 -- Lines written one after another, of lists and of what readers give.
-use Rattle.std.proofs.Common.{◌≡◌, ℕ, zero, suc, ◌+◌, ◌<◌, ◌≤◌, All, subst, true, false, List, [], ◌∷◌, ◌++◌, length, take, get_or, map, refl, ap, sym, ◌∙◌, arith, add-one, append_assoc, codes, decimal}
+use Rattle.std.proofs.Common.{◌≡◌, ℕ, zero, suc, ◌+◌, ◌<◌, ◌≤◌, All, subst, true, false, List, [], ◌∷◌, ◌++◌, length, take, get_or, map, refl, ap, sym, ◌∙◌, arith, add-one, append_assoc, codes, decimal, ◌==◌}
 use Rattle.std.specs.List.{flat_map, filter, range_with_len, join_with_byte}
 use Rattle.std.proofs.lemmas.Grind.{flat_map-append}
 use Rattle.std.proofs.lemmas.List.{append-nil, flat_map_more, take_more, get_or_default}
@@ -9,9 +9,10 @@ use Rattle.std.proofs.Math.Seq.{take-length}
 use Rattle.trust_types.specs.declared.graphs.Cert.{Cert}
 use Rattle.trust_types.specs.Graph.{Certificates}
 use Rattle.trust_types.specs.Names.{IsName}
+use Rattle.trust_types.specs.Tables.{Table}
 use Rattle.trust_types.specs.NodeWords.{name_of}
-use Rattle.audit_text.specs.Canonical.{line, caps_words, seed_words, cert_words}
-use Rattle.audit_text.specs.inner.Writing.{below, seeds_below, first_given, certs_below, lines_for}
+use Rattle.audit_text.specs.Canonical.{line, levels_words, seed_words, cert_words}
+use Rattle.audit_text.specs.inner.Writing.{entries_words, count_words, below, seeds_below, first_given, certs_below, lines_for}
 
 pub all_taken : {X : Type 0} (xs : List X) (n : ℕ) → n ≡ length xs → take n xs ≡ xs
 all_taken xs n e = rw e (take-length xs)
@@ -21,17 +22,28 @@ joined word [] = sym (append-nil word)
 joined word (n ∷ numbers) = ap (λ others. word ++ 32 ∷ others) (joined (decimal n) numbers)
 
 -- The table's line, entry by entry.
-caps-bytes : (bs entries : List ℕ) → ((bs ++ codes "caps") ++ flat_map (λ n. 32 ∷ decimal n) entries) ++ 10 ∷ [] ≡ bs ++ line (caps_words entries)
+caps-bytes : (bs entries : List ℕ) → ((bs ++ codes "caps") ++ flat_map (λ n. 32 ∷ decimal n) entries) ++ 10 ∷ [] ≡ bs ++ line (entries_words entries)
 caps-bytes bs entries =
     ap (λ text. text ++ 10 ∷ []) (append_assoc bs (codes "caps") (flat_map (λ n. 32 ∷ decimal n) entries) ∙ ap (λ words. bs ++ words) (sym (joined (codes "caps") entries)))
-    ∙ append_assoc bs (join_with_byte 32 (caps_words entries)) (10 ∷ [])
+    ∙ append_assoc bs (join_with_byte 32 (entries_words entries)) (10 ∷ [])
 
 pub caps_done : (old after text new entries : List ℕ) (n : ℕ) → after ≡ old ++ codes "caps" → text ≡ after ++ flat_map (λ m. 32 ∷ decimal m) (take n entries) → n ≡ length entries →
-    new ≡ text ++ 10 ∷ [] → new ≡ old ++ line (caps_words entries)
+    new ≡ text ++ 10 ∷ [] → new ≡ old ++ line (entries_words entries)
 caps_done old after text new entries n begun entered all ended =
     ended ∙ ap (λ bs. bs ++ 10 ∷ []) (entered ∙ ap (λ bs. bs ++ flat_map (λ m. 32 ∷ decimal m) (take n entries)) begun
     ∙ ap (λ ns. (old ++ codes "caps") ++ flat_map (λ m. 32 ∷ decimal m) ns) (all_taken entries n all))
     ∙ caps-bytes old entries
+
+-- The line of the number of levels, where it is written.
+pub count_none : (bs : List ℕ) (table : Table) (n : ℕ) → n ≡ table.levels → (n == 4) ≡ true → bs ≡ bs ++ flat_map line (levels_words table)
+count_none bs table n is four =
+    let same : (table.levels == 4) ≡ true = ap (λ m. m == 4) (sym is) ∙ four in
+    rw same (sym (append-nil bs))
+
+pub count_done : (bs new : List ℕ) (table : Table) (n : ℕ) → n ≡ table.levels → (n == 4) ≡ false → new ≡ bs ++ line (count_words n) → new ≡ bs ++ flat_map line (levels_words table)
+count_done bs new table n is other written =
+    let same : (table.levels == 4) ≡ false = ap (λ m. m == 4) (sym is) ∙ other in
+    rw same (written ∙ ap (λ m. bs ++ line (count_words m)) is ∙ ap (λ text. bs ++ text) (sym (append-nil (line (count_words table.levels)))))
 
 -- One item more of a list.
 pub more_taken : {X : Type 0} (words_of : X → List (List ℕ)) (bs : List ℕ) (xs : List X) (i : ℕ) (x : X) → i < length xs → get_or xs i x ≡ x →

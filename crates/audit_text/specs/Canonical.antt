@@ -1,5 +1,5 @@
 -- The canonical text of a proof: its lines in one order, each with its words in one spelling.
-use Rattle.std.specs.Prelude.{ℕ, ◌≡◌, ◌<◌, ◌≤◌, ◌^◌, All, List, [], ◌∷◌, ◌++◌, length, map, flat_map, codes, decimal, Ok}
+use Rattle.std.specs.Prelude.{ℕ, ◌≡◌, ◌==◌, ◌<◌, ◌≤◌, ◌^◌, All, List, [], ◌∷◌, ◌++◌, length, map, flat_map, codes, decimal, if◌then◌else◌, Ok}
 use Rattle.std.specs.List.{join_with_byte}
 use Rattle.std.specs.List.Sorted.{IsStrictlyIncreasing}
 use Rattle.trust_types.specs.declared.levels.Level.{Level}
@@ -9,7 +9,7 @@ use Rattle.trust_types.specs.declared.flows.FlowLine.{FlowLine}
 use Rattle.trust_types.specs.declared.limits.TheConstants.{MOST_ACCOUNTS}
 use Rattle.trust_types.specs.Levels.{level_name}
 use Rattle.trust_types.specs.Names.{IsName}
-use Rattle.trust_types.specs.Tables.{IsTable}
+use Rattle.trust_types.specs.Tables.{Table, IsTable}
 use Rattle.trust_types.specs.Certs.{CanStand, IsMadeOf}
 use Rattle.trust_types.specs.Proven.{Lists, IsProven}
 use Rattle.trust_types.specs.NodeWords.{name_of, node_name}
@@ -20,8 +20,12 @@ use Rattle.site_text.specs.View.{View, of_text}
 abbrev pub line : List (List ℕ) → List ℕ
 line words = join_with_byte 32 words ++ 10 ∷ []
 
-abbrev pub caps_words : List ℕ → List (List ℕ)
-caps_words table = codes "caps" ∷ map decimal table
+abbrev pub caps_words : Table → List (List ℕ)
+caps_words table = codes "caps" ∷ map decimal table.entries
+
+-- The line on the number of levels, where there aren't four.
+abbrev pub levels_words : Table → List (List (List ℕ))
+levels_words table = if table.levels == 4 then [] else (codes "levels" ∷ decimal table.levels ∷ []) ∷ []
 
 abbrev pub account_words : List ℕ → List (List ℕ)
 account_words name = codes "account" ∷ name ∷ []
@@ -45,9 +49,9 @@ abbrev pub full_words : List (List ℕ) → Node → List (List ℕ)
 full_words names x = codes "full" ∷ node_name names x ∷ []
 
 -- The lines of a site, and of what is claimed of it.
-abbrev pub site_words : List ℕ → List (List ℕ) → List ℕ → List Cert → List (List (List ℕ))
+abbrev pub site_words : Table → List (List ℕ) → List ℕ → List Cert → List (List (List ℕ))
 site_words table names seeds certs =
-    (caps_words table ∷ map account_words names) ++ map (seed_words names) seeds ++ map (cert_words names) certs
+    (caps_words table ∷ levels_words table) ++ map account_words names ++ map (seed_words names) seeds ++ map (cert_words names) certs
 
 abbrev pub claim_words : List (List ℕ) → Level → Lists → List (List (List ℕ))
 claim_words names level r =

@@ -1,43 +1,49 @@
 //! The canonical text of a proof, as it is written.
 
-ghost use Rattle.std.specs.Prelude.{◌≡◌, ◌≤◌, ◌<◌, ◌^◌, ℕ, ◌∷◌, [], ◌++◌, All, IfOk, OnOk, codes, decimal, length};
+ghost use Rattle.std.specs.Prelude.{◌≡◌, ◌≤◌, ◌<◌, ◌^◌, ℕ, true, ◌∷◌, [], ◌++◌, All, IfOk, OnOk, codes, decimal, flat_map, length};
+ghost use Rattle.trust_types.specs.Graph.{KeepsLevels};
 ghost use Rattle.trust_types.specs.Layout.{degree, given};
 ghost use Rattle.trust_types.specs.Lines.{place};
 ghost use Rattle.trust_types.specs.Names.{IsName};
 ghost use Rattle.trust_types.specs.NameLists.{AreApart};
 ghost use Rattle.trust_types.specs.Rows.{GivesEachOnce};
+ghost use Rattle.trust_types.specs.Tables.{has_grade};
 ghost use Rattle.frozen.specs.Revision.{certificates};
 ghost use Rattle.roster_form.specs.LevelRosters.{lists_of, AreAmong};
 ghost use Rattle.trust_types.specs.NodeWords.{name_of, node_name};
 ghost use Rattle.site_text.specs.View.{of_frozen};
-ghost use Rattle.audit_text.specs.Canonical.{line, caps_words, account_words, seed_words, cert_words, level_words, flow_words, IsCanonical, IsReadAs};
-ghost use Rattle.audit_text.specs.inner.Writing.{seeds_below, first_given, certs_below, lines_for};
+ghost use Rattle.audit_text.specs.Canonical.{line, levels_words, account_words, seed_words, cert_words, level_words, flow_words, IsCanonical, IsReadAs};
+ghost use Rattle.audit_text.specs.inner.Writing.{entries_words, count_words, seeds_below, first_given, certs_below, lines_for};
 
 use frozen::Frozen;
 use itoa::Buffer;
 use name_index::NameIndex;
 use roster_form::LevelRoster;
 use std::alloc::Global;
-use trust_types::{AccountNo, Cert, CertGraph, FlowLine, Level, MOST_ACCOUNTS, NoMemory, Node};
+use trust_types::{AccountNo, Caps, Cert, CertGraph, FlowLine, Level, MOST_ACCOUNTS, NoMemory, Node};
 
 /// About as many bytes as the line of an account or of a certificate has.
 const LINE: usize = 32;
 
 /// Writes the proof text of a roster over the graph on which it was found: the site's table, accounts, seeds and standing
-/// certificates, and then the roster's level, flow and cut. It is the canonical text of these, and is read again as a proof
-/// of the same. One pass over the accounts, the certificates and the roster's lists.
+/// certificates, and then the roster's level, flow and cut. It is the canonical text of these, and where the table has each
+/// level of the graph and the roster's grade, it is read again as a proof of the same. One pass over the accounts, the
+/// certificates and the roster's lists.
 ///
 /// # Errors
 /// [`NoMemory`] where there isn't enough for the text.
 pub fn proof_text(alloc: Global, frozen: &Frozen, roster: &LevelRoster) -> Result<Vec<u8>, NoMemory>
     requires among { AreAmong (certificates frozen.now).accounts (lists_of roster.now) }
     ensures canonical { IfOk result (λ text. IsCanonical (of_frozen frozen.now) roster.now.level (lists_of roster.now) text.items) }
-    ensures readable { IfOk result (λ text. IsReadAs (of_frozen frozen.now) roster.now.level (lists_of roster.now) text.items) }
+    ensures readable { KeepsLevels frozen.now.caps (certificates frozen.now) → has_grade frozen.now.caps roster.now.level ≡ true →
+        IfOk result (λ text. IsReadAs (of_frozen frozen.now) roster.now.level (lists_of roster.now) text.items) }
 {
     let names = frozen.names();
     let lines = frozen.accounts() as usize + frozen.certs() as usize;
     let mut text = Vec::with_capacity(alloc, LINE * lines)?;
-    put_caps(&mut text, frozen.caps().entries())?;
+    let caps = frozen.caps();
+    put_caps(&mut text, caps.entries())?;
+    put_levels(&mut text, caps)?;
     put_accounts(&mut text, names)?;
     put_seeds(&mut text, frozen)?;
     put_certs(&mut text, frozen)?;
@@ -50,12 +56,34 @@ pub fn proof_text(alloc: Global, frozen: &Frozen, roster: &LevelRoster) -> Resul
 
 /// The line `caps`, with the table's entries.
 fn put_caps(text: &mut Vec<u8>, entries: &[u32]) -> Result<(), NoMemory>
-    ensures { OnOk result (text.new.items ≡ text.old.items ++ line (caps_words entries.now)) }
+    ensures { OnOk result (text.new.items ≡ text.old.items ++ line (entries_words entries.now)) }
 {
     text.extend_from_slice(b"caps")?;
     for entry in entries {
         put_number(text, *entry)?;
     }
+    text.push(b'\n')?;
+    Ok(())
+}
+
+/// The line `levels`, where there aren't four.
+#[tactic(auto, using(crate::proofs::Written::count_none, crate::proofs::Written::count_done))]
+fn put_levels(text: &mut Vec<u8>, caps: &Caps) -> Result<(), NoMemory>
+    ensures { OnOk result (text.new.items ≡ text.old.items ++ flat_map line (levels_words caps.now)) }
+{
+    let levels = caps.levels();
+    if levels == 4 {
+        return Ok(());
+    }
+    put_count(text, levels)?;
+    Ok(())
+}
+
+fn put_count(text: &mut Vec<u8>, levels: u32) -> Result<(), NoMemory>
+    ensures { OnOk result (text.new.items ≡ text.old.items ++ line (count_words levels)) }
+{
+    text.extend_from_slice(b"levels")?;
+    put_number(text, levels)?;
     text.push(b'\n')?;
     Ok(())
 }

@@ -7,7 +7,7 @@ use Rattle.trust_types.specs.declared.levels.Level.{Level}
 use Rattle.trust_types.specs.declared.levels.Level.TheVariants.{Observer}
 use Rattle.trust_types.specs.declared.graphs.Cert.{Cert}
 use Rattle.trust_types.specs.Levels.{is_grade}
-use Rattle.trust_types.specs.Kept.{is_of_pair, stands, standing_among, standing_count}
+use Rattle.trust_types.specs.Changes.{is_of_pair, stands, standing_among, standing_count}
 use Rattle.cert_log.proofs.Leaving.{level_behind, none_behind, some_behind}
 
 -- 1 for a grade

@@ -3,10 +3,10 @@ use Rattle.std.proofs.Common.{◌≡◌, ℕ, zero, suc, ◌+◌, ◌≤◌, Boo
 use Rattle.std.specs.List.{list_any}
 use Rattle.std.proofs.lemmas.Bool.{false≢true}
 use Rattle.trust_types.specs.declared.levels.Level.{Level}
-use Rattle.trust_types.specs.declared.levels.Level.TheVariants.{Observer, Apprentice, Journeyer, Master}
+use Rattle.trust_types.specs.declared.levels.Level.TheVariants.{Observer, Apprentice, Journeyer, Master, Fellow, Warden, Elder}
 use Rattle.trust_types.specs.declared.graphs.Cert.{Cert}
 use Rattle.trust_types.specs.Levels.{is_grade, IsGrade}
-use Rattle.trust_types.specs.Kept.{is_of_pair, stands, standing_among}
+use Rattle.trust_types.specs.Changes.{is_of_pair, stands, standing_among}
 use Rattle.cert_log.specs.inner.Order.{standing_list}
 use Rattle.cert_log.proofs.Leaving.{level_behind, none_behind, some_behind}
 use Rattle.cert_log.proofs.Counting.{same_pair}
@@ -16,12 +16,18 @@ graded Observer is = absurd (false≢true is)
 graded Apprentice is = λ same. cc
 graded Journeyer is = λ same. cc
 graded Master is = λ same. cc
+graded Fellow is = λ same. cc
+graded Warden is = λ same. cc
+graded Elder is = λ same. cc
 
 pub grade_is : (level : Level) → IsGrade level → is_grade level ≡ true
 grade_is Observer is = absurd (is refl)
 grade_is Apprentice is = refl
 grade_is Journeyer is = refl
 grade_is Master is = refl
+grade_is Fellow is = refl
+grade_is Warden is = refl
+grade_is Elder is = refl
 
 -- what the test of a level answers
 pub tested : (level : Level) (r : Bool) → IsTrue r ↔ IsGrade level → is_grade level ≡ r
@@ -30,6 +36,9 @@ tested Observer false is = refl
 tested Apprentice false is = absurd (false≢true (is.1 (λ same. cc)))
 tested Journeyer false is = absurd (false≢true (is.1 (λ same. cc)))
 tested Master false is = absurd (false≢true (is.1 (λ same. cc)))
+tested Fellow false is = absurd (false≢true (is.1 (λ same. cc)))
+tested Warden false is = absurd (false≢true (is.1 (λ same. cc)))
+tested Elder false is = absurd (false≢true (is.1 (λ same. cc)))
 
 -- where a pair stands at a grade, some certificate is of the pair
 pub some_of_pair : (a b : ℕ) (cs : List Cert) (any : Bool) → list_any (is_of_pair a b) cs ≡ any → IsGrade (standing_among cs a b) → any ≡ true

@@ -1,10 +1,10 @@
 -- One more certificate in a map of levels.
 use Rattle.std.proofs.Common.{◌≡◌, ℕ, ◌+◌, ◌<◌, ◌≤◌, Bool, true, false, cond, List, [], ◌∷◌, ◌++◌, length, refl, sym, ◌∙◌, ap, arith, nat_eq, nat_le, ◌&&◌, Option, Some, None, is_some, inl, inr, ◌⊎◌}
 use Rattle.trust_types.specs.declared.levels.Level.{Level}
-use Rattle.trust_types.specs.declared.levels.Level.TheVariants.{Observer, Apprentice, Journeyer, Master}
+use Rattle.trust_types.specs.declared.levels.Level.TheVariants.{Observer, Apprentice, Journeyer, Master, Fellow, Warden, Elder}
 use Rattle.trust_types.specs.declared.graphs.Cert.{Cert}
 use Rattle.trust_types.specs.Levels.{is_grade}
-use Rattle.trust_types.specs.Kept.{is_of_pair, standing_among, standing_count}
+use Rattle.trust_types.specs.Changes.{is_of_pair, standing_among, standing_count}
 use Rattle.pair_map.specs.Pairs.{Pairs, value_at, IsSet}
 use Rattle.cert_log.specs.inner.Levels.{AreLevels, grade_of}
 use Rattle.cert_log.proofs.Leaving.{behind_push}
@@ -15,6 +15,9 @@ is_some-grade_of Observer = refl
 is_some-grade_of Apprentice = refl
 is_some-grade_of Journeyer = refl
 is_some-grade_of Master = refl
+is_some-grade_of Fellow = refl
+is_some-grade_of Warden = refl
+is_some-grade_of Elder = refl
 
 grade_by : (is : Bool) (l m : Level) → cond is (grade_of l) (grade_of m) ≡ grade_of (cond is l m)
 grade_by true l m = refl

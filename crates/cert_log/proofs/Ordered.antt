@@ -6,7 +6,7 @@ use Rattle.std.proofs.lemmas.List.{get_or-drop, length-drop}
 use Rattle.trust_types.specs.declared.levels.Level.{Level}
 use Rattle.trust_types.specs.declared.levels.Level.TheVariants.{Observer}
 use Rattle.trust_types.specs.declared.graphs.Cert.{Cert}
-use Rattle.trust_types.specs.Kept.{is_of_pair, standing_among}
+use Rattle.trust_types.specs.Changes.{is_of_pair, standing_among}
 use Rattle.trust_types.specs.Certs.{IsBefore}
 use Rattle.cert_log.specs.inner.Order.{pair_lt, RisesByPair, begins_with_pair}
 use Rattle.cert_log.proofs.Leaving.{level_behind}

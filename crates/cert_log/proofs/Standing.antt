@@ -7,10 +7,10 @@ use Rattle.std.proofs.lemmas.List.{length-map}
 use Rattle.std.proofs.lemmas.List.Elements.{All-cons, All-tail, All-head, Contains-get_or}
 use Rattle.std.proofs.lemmas.List.Kept.{AllPairs-cons}
 use Rattle.trust_types.specs.declared.levels.Level.{Level}
-use Rattle.trust_types.specs.declared.levels.Level.TheVariants.{Observer, Apprentice, Journeyer, Master}
+use Rattle.trust_types.specs.declared.levels.Level.TheVariants.{Observer, Apprentice, Journeyer, Master, Fellow, Warden, Elder}
 use Rattle.trust_types.specs.declared.graphs.Cert.{Cert}
 use Rattle.trust_types.specs.Levels.{is_grade, IsGrade}
-use Rattle.trust_types.specs.Kept.{is_of_pair, stands, standing_among}
+use Rattle.trust_types.specs.Changes.{is_of_pair, stands, standing_among}
 use Rattle.trust_types.specs.Certs.{IsBefore}
 use Rattle.pair_map.specs.Pairs.{Pairs, Rises}
 use Rattle.pair_map.proofs.Entries.{Contains-value_at, value_at-Contains}
@@ -94,12 +94,18 @@ graded_is Observer m e = cc
 graded_is Apprentice m e = let is : Apprentice ≡ m = cc in (λ none. let apart : Apprentice ≡ Observer = is ∙ none in cc, is)
 graded_is Journeyer m e = let is : Journeyer ≡ m = cc in (λ none. let apart : Journeyer ≡ Observer = is ∙ none in cc, is)
 graded_is Master m e = let is : Master ≡ m = cc in (λ none. let apart : Master ≡ Observer = is ∙ none in cc, is)
+graded_is Fellow m e = let is : Fellow ≡ m = cc in (λ none. let apart : Fellow ≡ Observer = is ∙ none in cc, is)
+graded_is Warden m e = let is : Warden ≡ m = cc in (λ none. let apart : Warden ≡ Observer = is ∙ none in cc, is)
+graded_is Elder m e = let is : Elder ≡ m = cc in (λ none. let apart : Elder ≡ Observer = is ∙ none in cc, is)
 
 is_graded : (l m : Level) → IsGrade m → l ≡ m → grade_of l ≡ Some m
 is_graded Observer m grade e = absurd (grade (sym e))
 is_graded Apprentice m grade e = ap Some e
 is_graded Journeyer m grade e = ap Some e
 is_graded Master m grade e = ap Some e
+is_graded Fellow m grade e = ap Some e
+is_graded Warden m grade e = ap Some e
+is_graded Elder m grade e = ap Some e
 
 abbrev entry : Cert → (ℕ × ℕ) × Level
 entry c = ((c.from, c.to), c.level)

@@ -2,7 +2,7 @@
 use Rattle.std.specs.Prelude.{Bool, true, false, List, [], ◌∷◌, ◌++◌, ◌≡◌, Result, Ok, Err, nat_le}
 use Rattle.trust_types.specs.declared.graphs.Cert.{Cert}
 use Rattle.trust_types.specs.declared.limits.TheConstants.{MOST_CERTS}
-use Rattle.trust_types.specs.Kept.{standing_count}
+use Rattle.trust_types.specs.Changes.{standing_count}
 use Rattle.cert_log.specs.declared.logs.CertLog.{CertLog}
 use Rattle.cert_log.specs.inner.Levels.{Keeps}
 

@@ -3,7 +3,7 @@ use Rattle.std.specs.Prelude.{ℕ, ◌≡◌, ◌≢◌, ◌<◌, ◌≤◌, ◌
 use Rattle.trust_types.specs.declared.graphs.Cert.{Cert}
 use Rattle.trust_types.specs.declared.limits.TheConstants.{MOST_CERTS}
 use Rattle.trust_types.specs.Levels.{IsGrade}
-use Rattle.trust_types.specs.Kept.{standing_among}
+use Rattle.trust_types.specs.Changes.{standing_among}
 use Rattle.trust_types.specs.Certs.{IsBefore, CanStand}
 
 -- These stand after the certificates: at most 2,000,000, in rising order of giver and taker, each pair that has a grade

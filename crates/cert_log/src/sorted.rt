@@ -2,7 +2,7 @@
 
 ghost use Rattle.std.specs.Prelude.{◌≡◌, ◌<◌, ◌≤◌, ℕ, OnOk, length, take, drop};
 ghost use Rattle.std.specs.List.Sorted.{IsStableBy};
-ghost use Rattle.trust_types.specs.Kept.{standing_among};
+ghost use Rattle.trust_types.specs.Changes.{standing_among};
 ghost use Rattle.cert_log.specs.inner.Order.{standing_list, first_stands, RisesByPair, pair_lt, begins_with_pair};
 
 use std::alloc::AllocError;

@@ -2,3 +2,4 @@ mod Saying
 mod Flowing
 mod Drafting
 mod Parting
+mod Grading

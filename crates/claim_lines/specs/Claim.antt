@@ -7,16 +7,16 @@ use Rattle.trust_types.specs.declared.levels.Level.{Level}
 use Rattle.trust_types.specs.declared.accounts.Node.{Node}
 use Rattle.trust_types.specs.declared.accounts.Node.TheVariants.{Root}
 use Rattle.trust_types.specs.declared.flows.FlowLine.{FlowLine}
-use Rattle.trust_types.specs.Levels.{level_of, is_grade}
+use Rattle.trust_types.specs.Tables.{Table}
 use Rattle.trust_types.specs.NameLists.{number_of}
 use Rattle.trust_types.specs.NodeWords.{is_node, node_of}
 use Rattle.trust_types.specs.Lines.{same_node}
 use Rattle.text_lines.specs.declared.faults.TextKind.{TextKind}
-use Rattle.text_lines.specs.declared.faults.TextKind.TheVariants.{BadLine, BadNumber, BadLevel, BadName, Unknown, Twice}
+use Rattle.text_lines.specs.declared.faults.TextKind.TheVariants.{BadLine, BadNumber, BadName, Unknown, Twice}
 use Rattle.text_lines.specs.Words.{words, is_line}
 use Rattle.text_lines.specs.Numbers.{number}
 use Rattle.text_lines.specs.Steps.{◌>>=◌, fault_if, fault_unless}
-use Rattle.text_lines.specs.Places.{one_word, three_words, name_in}
+use Rattle.text_lines.specs.Places.{one_word, three_words, name_in, grade_in}
 
 -- The lines of the flow, and the nodes that pass and that are full, each in the order of the text.
 pub record Claim : Type 0 where
@@ -103,23 +103,16 @@ begins_with_level (word ∷ others) = bytes_eq word (codes "level")
 abbrev pub is_level_line : List ℕ → Bool
 is_level_line line = is_line line && begins_with_level (words line)
 
--- The grade that a word spells.
-abbrev pub grade_of : List ℕ → Result Level TextKind
-grade_of word = do
-  level ← ok_or (level_of word) BadLevel
-  _ ← fault_unless (is_grade level) BadLevel
-  Ok level
-
 -- The grade of such a line.
-abbrev pub grade_in : List (List ℕ) → Result Level TextKind
-grade_in [] = Err BadLine
-grade_in (word ∷ words) = one_word words >>= grade_of
+abbrev pub level_form : Table → List (List ℕ) → Result Level TextKind
+level_form table [] = Err BadLine
+level_form table (word ∷ words) = one_word words >>= grade_in table
 
 -- `level GRADE`
-unfoldable pub level_line : List ℕ → Result Level TextKind
-level_line line = do
+unfoldable pub level_line : Table → List ℕ → Result Level TextKind
+level_line table line = do
   _ ← fault_unless (is_level_line line) BadLine
-  grade_in (words line)
+  level_form table (words line)
 
 -- Whether the root is on a side of the cut.
 abbrev pub has_root : Claim → Bool

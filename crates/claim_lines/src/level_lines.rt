@@ -1,12 +1,13 @@
 //! The line between a site and what is claimed of it.
 
-ghost use Rattle.std.specs.Prelude.{◌≡◌, IfOk};
+ghost use Rattle.std.specs.Prelude.{◌≡◌, true, IfOk};
 ghost use Rattle.trust_types.specs.Levels.{IsGrade};
+ghost use Rattle.trust_types.specs.Tables.{has_level};
 ghost use Rattle.text_lines.specs.Words.{words};
-ghost use Rattle.claim_lines.specs.Claim.{begins_with_level, is_level_line, grade_of, grade_in, level_line};
+ghost use Rattle.claim_lines.specs.Claim.{begins_with_level, is_level_line, level_form, level_line};
 
-use text_lines::{TextKind, Words, fault_unless, is_line, is_same};
-use trust_types::Level;
+use text_lines::{TextKind, Words, fault_unless, grade_in, is_line, is_same};
+use trust_types::{Caps, Level};
 
 /// Whether the line ends the site: it is one whose first word is `level`. Of another line it looks at the first word alone.
 pub fn is_level_line(line: &[u8]) -> bool
@@ -24,35 +25,27 @@ fn begins_with_level(line: &[u8]) -> bool
     }
 }
 
-/// The grade of a line `level GRADE`.
+/// The grade of a line `level GRADE`, which the table has.
 ///
 /// # Errors
 /// [`TextKind::BadLine`] where the line has another form, and then [`TextKind::BadLevel`] where its second word spells no
-/// grade.
+/// grade that the table has.
 #[tactic(auto, unfolding(crate::specs::Claim::level_line))]
-pub fn read_level(line: &[u8]) -> Result<Level, TextKind>
-    ensures level { result ≡ level_line line.now }
+pub fn read_level(table: &Caps, line: &[u8]) -> Result<Level, TextKind>
+    ensures level { result ≡ level_line table.now line.now }
     ensures grade { IfOk result IsGrade }
+    ensures has { IfOk result (λ level. has_level table.now level ≡ true) }
 {
     fault_unless(is_level_line(line), TextKind::BadLine)?;
-    grade_in(&mut Words::of(line))
+    grade_of(table, &mut Words::of(line))
 }
 
 /// The grade that the second of two words spells.
-fn grade_in(words: &mut Words) -> Result<Level, TextKind>
-    ensures level { result ≡ grade_in words.old }
+fn grade_of(table: &Caps, words: &mut Words) -> Result<Level, TextKind>
+    ensures level { result ≡ level_form table.now words.old }
     ensures grade { IfOk result IsGrade }
+    ensures has { IfOk result (λ level. has_level table.now level ≡ true) }
 {
     let _keyword = words.first()?;
-    grade_of(words.one()?)
-}
-
-/// The grade that the word spells.
-fn grade_of(word: &[u8]) -> Result<Level, TextKind>
-    ensures level { result ≡ grade_of word.now }
-    ensures grade { IfOk result IsGrade }
-{
-    let level = Level::of_name(word).ok_or(TextKind::BadLevel)?;
-    fault_unless(level.is_grade(), TextKind::BadLevel)?;
-    Ok(level)
+    grade_in(table, words.one()?)
 }

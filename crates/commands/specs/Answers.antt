@@ -1,13 +1,16 @@
 -- What the program answers to the bytes that it read.
-use Rattle.std.specs.Prelude.{ℕ, ◌≡◌, ◌≤◌, List, ◌∷◌, ◌++◌, codes, decimal, length, flat_map, Result, Ok, Err}
+use Rattle.std.specs.Prelude.{ℕ, ◌≡◌, ◌≤◌, ◌+◌, List, [], ◌∷◌, ◌++◌, codes, decimal, length, flat_map, Result, Ok, Err}
 use Rattle.std.specs.List.Sorted.{IsStrictlyIncreasing}
 use Rattle.trust_types.specs.declared.levels.Level.{Level}
-use Rattle.trust_types.specs.declared.levels.Level.TheVariants.{Apprentice, Journeyer, Master}
 use Rattle.trust_types.specs.Levels.{level_name}
+use Rattle.trust_types.specs.Tables.{has_grade, grades_of}
 use Rattle.trust_types.specs.Flow.{total}
 use Rattle.trust_types.specs.Roster.{IsRoster}
 use Rattle.trust_types.specs.Lines.{flow_of}
 use Rattle.text_lines.specs.declared.faults.TextFault.{TextFault}
+use Rattle.text_lines.specs.declared.faults.TextKind.TheVariants.{BadLevel}
+use Rattle.text_lines.specs.Words.{lines}
+use Rattle.text_lines.specs.Steps.{◌>>=◌, fault_unless, at_line}
 use Rattle.text_lines.specs.Faults.{fault_line}
 use Rattle.roster_form.specs.Bounded.{IsBounded}
 use Rattle.cut_check.specs.declared.proofs.Proof.{Proof}
@@ -61,12 +64,27 @@ pub record IsRosterLine (v : View) (level : Level) (line : List ℕ) : Type 0 wh
   pub bounded : IsBounded v.graph level v.table served
   pub printed : line ≡ roster_line v.names level served
 
--- The lines of the rosters that are asked for, lowest grade first.
+-- The lines of the rosters of these grades, one after another.
+abbrev pub AreLinesOf : View → List Level → List ℕ → Type 0
+AreLinesOf v [] text = text ≡ []
+AreLinesOf v (level ∷ levels) text = (line others : List ℕ) × IsRosterLine v level line × AreLinesOf v levels others × (text ≡ line ++ others)
+
+-- The lines of the rosters that are asked for: one grade's, or those of all grades of the site's table, lowest first.
 abbrev pub AreRosterLines : Asked → View → List ℕ → Type 0
 AreRosterLines (One level) v text = IsRosterLine v level text
-AreRosterLines All v text =
-    (low middle high : List ℕ) × IsRosterLine v Apprentice low × IsRosterLine v Journeyer middle × IsRosterLine v Master high
-    × (text ≡ low ++ middle ++ high)
+AreRosterLines All v text = AreLinesOf v (grades_of v.table) text
+
+-- The site of a text's bytes, whose table has a grade. A grade that it hasn't is a fault of the line after the last.
+abbrev pub site_with : Level → List ℕ → Result SiteText TextFault
+site_with level bytes = do
+  s ← site bytes
+  _ ← at_line (length (lines bytes) + 1) (fault_unless (has_grade s.table level) BadLevel)
+  Ok s
+
+-- The site of which rosters are asked.
+abbrev pub site_for : Asked → List ℕ → Result SiteText TextFault
+site_for (One level) bytes = site_with level bytes
+site_for All bytes = site bytes
 
 -- The fault of the text is told.
 pub record TellsFault (fault : TextFault) (answer : Answer) : Type 0 where
@@ -94,5 +112,5 @@ pub record IsAuditText (level : Level) (v : View) (text : List ℕ) : Type 0 whe
 -- The answer to the bytes. Each command gives one of just these for every input.
 abbrev pub Answers : Command → List ℕ → Answer → Type 0
 Answers Check bytes answer = AnswersProof (proof bytes) answer
-Answers (Rosters asked) bytes answer = AnswersSite (AreRosterLines asked) (site bytes) answer
-Answers (Audit level) bytes answer = AnswersSite (IsAuditText level) (site bytes) answer
+Answers (Rosters asked) bytes answer = AnswersSite (AreRosterLines asked) (site_for asked bytes) answer
+Answers (Audit level) bytes answer = AnswersSite (IsAuditText level) (site_with level bytes) answer

@@ -1,13 +1,18 @@
 //! The answer to what was read.
 
-ghost use Rattle.std.specs.Prelude.{◌≡◌, ◌≤◌, IfOk, vec_len};
+ghost use Rattle.std.specs.Prelude.{◌≡◌, ◌≤◌, true, IfOk, vec_len};
 ghost use Rattle.text_lines.specs.Reading.{ReadsAll};
 ghost use Rattle.site_text.specs.Faults.{fault_of};
 ghost use Rattle.site_text.specs.Site.{site, proof};
 ghost use Rattle.site_text.specs.View.{IsFrozenOf, IsProofOf};
 ghost use Rattle.commands.specs.Commands.{limit_of, AreGrades, AsksGrades};
 ghost use Rattle.trust_types.specs.Levels.{IsGrade};
-ghost use Rattle.commands.specs.Answers.{status_for, Answers, AnswersProof, AnswersSite, IsJudged, TellsFault, AreRosterLines, IsAuditText};
+ghost use Rattle.trust_types.specs.Tables.{has_grade};
+ghost use Rattle.trust_types.specs.Graph.{KeepsLevels};
+ghost use Rattle.frozen.specs.Revision.{certificates};
+ghost use Rattle.text_lines.specs.declared.faults.TextKind.TheVariants.{BadLevel};
+ghost use Rattle.text_lines.specs.Steps.{fault_unless};
+ghost use Rattle.commands.specs.Answers.{status_for, site_for, site_with, Answers, AnswersProof, AnswersSite, IsJudged, TellsFault, AreRosterLines, IsAuditText};
 
 use crate::command::{Asked, Command, MOST_SITE_BYTES};
 use crate::outcome::Answer;
@@ -20,7 +25,8 @@ use site_text::{SiteFault, TextFault, read_proof, read_site};
 use solver::solve_one;
 use std::alloc::Global;
 use std::sync::Arc;
-use trust_types::{CertGraph, Level, NoMemory};
+use text_lines::{TextKind, at_line, fault_unless, line_count};
+use trust_types::{Caps, CertGraph, Level, NoMemory};
 
 /// The answer that a command gives to its whole input. The bytes are given up as soon as they are read, before anything is judged
 /// or solved.
@@ -85,21 +91,46 @@ fn status_for(verdict: Verdict) -> Status
     }
 }
 
-/// The site that the bytes are. It drops them.
-fn into_site(alloc: Global, bytes: Vec<u8>) -> Result<Arc<Frozen>, SiteFault>
+/// The site of which rosters are asked. It drops the bytes.
+fn into_site(alloc: Global, asked: Asked, bytes: Vec<u8>) -> Result<Arc<Frozen>, SiteFault>
+    requires grades { AreGrades asked }
     requires few { vec_len bytes ≤ MOST_SITE_BYTES }
-    ensures { ReadsAll (λ f s. IsFrozenOf s f.value) fault_of result (site bytes.items) }
+    ensures { ReadsAll (λ f s. IsFrozenOf s f.value) fault_of result (site_for asked bytes.items) }
 {
-    read_site(alloc, &bytes)
+    match asked {
+        Asked::One(level) => into_site_with(alloc, level, bytes),
+        Asked::All => read_site(alloc, &bytes),
+    }
+}
+
+/// The site that the bytes are, whose table has a grade. It drops the bytes.
+fn into_site_with(alloc: Global, level: Level, bytes: Vec<u8>) -> Result<Arc<Frozen>, SiteFault>
+    requires grade { IsGrade level }
+    requires few { vec_len bytes ≤ MOST_SITE_BYTES }
+    ensures read { ReadsAll (λ f s. IsFrozenOf s f.value) fault_of result (site_with level bytes.items) }
+    ensures levels { IfOk result (λ f. KeepsLevels f.value.caps (certificates f.value)) }
+    ensures grade { IfOk result (λ f. has_grade f.value.caps level ≡ true) }
+{
+    let frozen = read_site(alloc, &bytes)?;
+    at_line(line_count(&bytes) + 1, graded(frozen.caps(), level))?;
+    Ok(frozen)
+}
+
+/// Nothing, where the table has the grade.
+fn graded(table: &Caps, level: Level) -> Result<(), TextKind>
+    requires { IsGrade level }
+    ensures { result ≡ fault_unless (has_grade table.now level) BadLevel }
+{
+    fault_unless(table.has(level), TextKind::BadLevel)
 }
 
 /// The rosters of the site that the bytes are, or their fault.
 fn answer_rosters(alloc: Global, asked: Asked, bytes: Vec<u8>) -> Result<Answer, NoMemory>
     requires grades { AreGrades asked }
     requires few { vec_len bytes ≤ MOST_SITE_BYTES }
-    ensures { IfOk result (AnswersSite (AreRosterLines asked) (site bytes.items)) }
+    ensures { IfOk result (AnswersSite (AreRosterLines asked) (site_for asked bytes.items)) }
 {
-    match into_site(alloc, bytes) {
+    match into_site(alloc, asked, bytes) {
         Ok(frozen) => Ok(Answer {
             status: Status::Done,
             text: roster_lines(alloc, asked, &frozen)?,
@@ -113,9 +144,9 @@ fn answer_rosters(alloc: Global, asked: Asked, bytes: Vec<u8>) -> Result<Answer,
 fn answer_audit(alloc: Global, level: Level, bytes: Vec<u8>) -> Result<Answer, NoMemory>
     requires grade { IsGrade level }
     requires few { vec_len bytes ≤ MOST_SITE_BYTES }
-    ensures { IfOk result (AnswersSite (IsAuditText level) (site bytes.items)) }
+    ensures { IfOk result (AnswersSite (IsAuditText level) (site_with level bytes.items)) }
 {
-    match into_site(alloc, bytes) {
+    match into_site_with(alloc, level, bytes) {
         Ok(frozen) => {
             let roster = solve_one(alloc, &frozen, level)?;
             Ok(Answer {

@@ -15,7 +15,7 @@ pub const MOST_PROOF_BYTES: usize = 268_435_456;
 pub enum Asked {
     /// This grade alone.
     One(Level),
-    /// The three grades, lowest first.
+    /// All grades of the site's table, lowest first.
     All,
 }
 

@@ -1,12 +1,13 @@
 //! Rosters as they are printed.
 
-ghost use Rattle.std.specs.Prelude.{ℕ, List, ◌≡◌, ◌<◌, ◌∷◌, ◌++◌, All as Each, IfOk, OnOk, length, flat_map};
+ghost use Rattle.std.specs.Prelude.{◌≡◌, ◌<◌, ◌∷◌, ◌++◌, [], All as Each, IfOk, OnOk, length, flat_map};
 ghost use Rattle.trust_types.specs.Levels.{IsGrade};
 ghost use Rattle.site_text.specs.View.{of_frozen};
 ghost use Rattle.trust_types.specs.NodeWords.{name_of};
 ghost use Rattle.commands.specs.declared.command.Asked.TheVariants.{All};
 ghost use Rattle.commands.specs.Commands.{AreGrades};
 ghost use Rattle.commands.specs.Answers.{AreRosterLines, IsRosterLine, roster_line};
+ghost use Rattle.commands.specs.inner.Lines.{AddsLines};
 
 use crate::command::Asked;
 use frozen::Frozen;
@@ -39,27 +40,39 @@ fn one_line(alloc: Global, frozen: &Arc<Frozen>, level: Level) -> Result<Vec<u8>
     Ok(text)
 }
 
-/// The lines of the three grades, whose rosters are found one after another in the same room.
+/// The lines of all grades of the graph's table, whose rosters are found one after another in the same room.
 fn all_lines(alloc: Global, frozen: &Arc<Frozen>) -> Result<Vec<u8>, NoMemory>
     ensures { IfOk result (λ text. AreRosterLines All (of_frozen frozen.now.value) text.items) }
 {
     let candidate = solve_alone(alloc, frozen)?;
     let mut text = Vec::new(alloc);
-    push_grade(alloc, &mut text, &candidate, Level::Apprentice)?;
-    push_grade(alloc, &mut text, &candidate, Level::Journeyer)?;
-    push_grade(alloc, &mut text, &candidate, Level::Master)?;
+    push_grades(alloc, &mut text, &candidate, &Level::GRADES)?;
     Ok(text)
 }
 
-/// Adds the line of a grade's roster.
+/// Adds the lines of those of the grades that the graph's table has.
+fn push_grades(
+    alloc: Global,
+    text: &mut Vec<u8>,
+    candidate: &Candidate,
+    levels: &[Level],
+) -> Result<(), NoMemory>
+    ensures { OnOk result (AddsLines (of_frozen candidate.now.graph) levels.now text.old.items text.new.items) }
+{
+    for level in levels {
+        push_grade(alloc, text, candidate, *level)?;
+    }
+    Ok(())
+}
+
+/// Adds the line of a grade's roster, where the graph's table has the grade.
 fn push_grade(
     alloc: Global,
     text: &mut Vec<u8>,
     candidate: &Candidate,
     level: Level,
 ) -> Result<(), NoMemory>
-    requires { IsGrade level }
-    ensures { OnOk result ((line : List ℕ) × IsRosterLine (of_frozen candidate.now.graph) level line × (text.new.items ≡ text.old.items ++ line)) }
+    ensures { OnOk result (AddsLines (of_frozen candidate.now.graph) (level ∷ []) text.old.items text.new.items) }
 {
     match candidate.roster(level) {
         Some(roster) => push_line(alloc, text, candidate.frozen().names(), roster),

@@ -5,6 +5,7 @@ use Rattle.std.proofs.lemmas.Bool.{cases_lt, le-ltb}
 use Rattle.trust_types.specs.declared.levels.Level.{Level}
 use Rattle.trust_types.specs.declared.accounts.Node.{Node}
 use Rattle.trust_types.specs.declared.accounts.Node.TheVariants.{Root, Account}
+use Rattle.trust_types.specs.Tables.{Table}
 use Rattle.trust_types.specs.Graph.{Certificates, HasEdge, Walk, IsDistance}
 use Rattle.trust_types.specs.Capacity.{entry, AreCapacities, cap_by}
 use Rattle.trust_types.proofs.Walks.{walk_longer, last_edge, walk_to_root, walk_within, distance_of_root, distance_unique}
@@ -12,16 +13,16 @@ use Rattle.distances.specs.inner.Reached.{IsNew, Reaches, IsSeed, IsCertifiedFro
 use Rattle.distances.proofs.Reaching.{seen_or_not}
 
 -- a table has one entry from its end on, so distances may stop there or later
-entry-min : (table : List ℕ) (n most : ℕ) → length table ≤ most → entry table (min n most) ≡ entry table n
+entry-min : (table : Table) (n most : ℕ) → length table.entries ≤ most → entry table (min n most) ≡ entry table n
 entry-min table n most long = elim (cases_lt n most) [
   | inl within ↦ let same : min n most ≡ n = omega arith in ap (entry table) same
   | inr past ↦
       let same : min n most ≡ most = omega arith in
-      ap (entry table) same ∙ rw (le-ltb most (length table) long, le-ltb n (length table) (omega arith))
+      ap (entry table) same ∙ rw (le-ltb most (length table.entries) long, le-ltb n (length table.entries) (omega arith))
 ]
 
 -- The accounts within a distance are reached, each with its capacity; those at that very distance stand in the queue from a place on.
-pub record IsLayered (g : Certificates) (level : Level) (table : List ℕ) (distance start : ℕ) (out queue : List ℕ) : Type 0 where
+pub record IsLayered (g : Certificates) (level : Level) (table : Table) (distance start : ℕ) (out queue : List ℕ) : Type 0 where
   pub near : (m b : ℕ) → m ≤ distance → Walk g level m (Account b) → 0 < slice_index out b
   pub exact : (b : ℕ) → 0 < slice_index out b → (n : ℕ) × (n ≤ distance) × IsDistance g level (Account b) n × (slice_index out b ≡ entry table n)
   pub layer : (i : ℕ) → start ≤ i → i < length queue → IsDistance g level (Account (slice_index queue i)) distance
@@ -36,7 +37,7 @@ seed_from_root : (g : Certificates) (level : Level) (b : ℕ) → IsNext g level
 seed_from_root g level b (Root, at, edge) = edge
 seed_from_root g level b (Account a, at, edge) = absurd (cc (at.walk))
 
-module _ {g : Certificates} {level : Level} {table : List ℕ} {d start : ℕ} {out queue : List ℕ} (layered : IsLayered g level table d start out queue) where
+module _ {g : Certificates} {level : Level} {table : Table} {d start : ℕ} {out queue : List ℕ} (layered : IsLayered g level table d start out queue) where
   -- only accounts of the graph stand in a layer
   pub layer_within : (i : ℕ) → start ≤ i → i < length queue → slice_index queue i < g.accounts
   layer_within i from before = walk_within g level d (slice_index queue i) (layered.layer i from before).walk
@@ -107,7 +108,7 @@ module _ {g : Certificates} {level : Level} {table : List ℕ} {d start : ℕ} {
       (place.0, place.1, place.2, subst (λ (k : ℕ). HasEdge g level (Account k) b) (sym place.3) edge)
 
   -- what the accounts of a layer certify makes the next one
-  pub layer_after : {most end counted c : ℕ} {out' queue' : List ℕ} → length table ≤ most → 0 < d → Reaches (IsCertifiedFrom g level queue start) c out queue out' queue' →
+  pub layer_after : {most end counted c : ℕ} {out' queue' : List ℕ} → length table.entries ≤ most → 0 < d → Reaches (IsCertifiedFrom g level queue start) c out queue out' queue' →
       end ≡ length queue → counted ≡ min (d + 1) most → c ≡ entry table counted → IsLayered g level table (d + 1) end out' queue'
   layer_after {most = most} long some step here count capacity =
       let next : d + 1 ≡ suc d = omega arith in
@@ -138,7 +139,7 @@ module _ {g : Certificates} {level : Level} {table : List ℕ} {d start : ℕ} {
   ]
 
 -- the seeds make the first layer
-pub first_layer : {g : Certificates} (level : Level) {table : List ℕ} {c : ℕ} {out out' queue' : List ℕ} → ((b : ℕ) → slice_index out b ≡ 0) →
+pub first_layer : {g : Certificates} (level : Level) {table : Table} {c : ℕ} {out out' queue' : List ℕ} → ((b : ℕ) → slice_index out b ≡ 0) →
     Reaches (IsSeed g) c out [] out' queue' → c ≡ entry table 1 → IsLayered g level table 1 0 out' queue'
 first_layer {g = g} level {table = table} {out = out} none step capacity =
     let root : IsLayered g level table 0 0 out [] = record {

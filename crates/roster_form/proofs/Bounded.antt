@@ -9,6 +9,7 @@ use Rattle.trust_types.specs.declared.levels.Level.{Level}
 use Rattle.trust_types.specs.declared.accounts.Node.{Node}
 use Rattle.trust_types.specs.declared.accounts.Node.TheVariants.{Account}
 use Rattle.trust_types.specs.Sum.{sum_below}
+use Rattle.trust_types.specs.Tables.{Table}
 use Rattle.trust_types.specs.Graph.{Certificates}
 use Rattle.trust_types.specs.Flow.{Flow, IsFeasible, IsServed, is_served, units_in, units_out}
 use Rattle.trust_types.specs.Boundary.{Members}
@@ -73,7 +74,7 @@ served_part n f members x served member = omega (arith, cond-true {A = ℕ} (mem
 feasible_at : (g : Certificates) (level : Level) (f : Flow) (cap other : Node → ℕ) → ((x : Node) → cap x ≡ other x) → IsFeasible g level cap f → IsFeasible g level other f
 feasible_at g level f cap other same = subst (λ (c : Node → ℕ). IsFeasible g level c f) (λ i x. same x i)
 
-pub proven_is_bounded : (g : Certificates) (level : Level) (table : List ℕ) (r : Lists) → IsProven g level table r → IsBounded g level table r.served
+pub proven_is_bounded : (g : Certificates) (level : Level) (table : Table) (r : Lists) → IsProven g level table r → IsBounded g level table r.served
 proven_is_bounded g level table r proven cap members capacities seedless =
     let proof = proven.1.2 in
     let n : ℕ = g.accounts in

@@ -1,19 +1,24 @@
 -- What is known of proven rosters, and which accounts they have.
-use Rattle.std.proofs.Common.{ℕ, Bool, true, false, ◌≡◌, ◌<◌, ◌≤◌, ◌==◌, ◌↔◌, List, length, get_or, Result, Ok, Err, is_ok, AllPairs, Contains, inl, inr, refl, sym, subst, ap, ◌∙◌, arith}
+use Rattle.std.proofs.Common.{Bor, ℕ, Bool, true, false, ◌≡◌, ◌<◌, ◌≤◌, ◌==◌, ◌↔◌, List, length, get_or, Result, Ok, Err, is_ok, AllPairs, Contains, inl, inr, refl, sym, subst, ap, ◌∙◌, arith}
+use Rattle.std.specs.Option.{option_copied}
 use Rattle.std.specs.List.Sorted.{IsStrictlyIncreasing, IsBinarySearchResult}
 use Rattle.std.specs.Ordering.{nat_cmp}
 use Rattle.std.proofs.lemmas.Bool.{cases_lt, eqb-true, eq-eqb, false≢true, false_from_ne_true}
-use Rattle.std.proofs.lemmas.List.{get_or_default}
+use Rattle.std.specs.Prelude.{Option, Some, None, IfSome, slice_get, option_map, map, ◌+◌, ◌-◌, cond}
+use Rattle.std.proofs.lemmas.List.{get_or_default, length-map}
+use Rattle.std.proofs.lemmas.Option.{slice_get-map}
 use Rattle.std.proofs.lemmas.List.Folds.{Any-from_list_any, list_any-from_Any}
 use Rattle.std.proofs.lemmas.List.Sorted.{searched}
 use Rattle.trust_types.specs.declared.levels.Level.{Level}
-use Rattle.trust_types.specs.declared.levels.Level.TheVariants.{Observer, Apprentice, Journeyer, Master}
+use Rattle.trust_types.specs.Levels.{rank, is_grade}
 use Rattle.trust_types.specs.Proven.{Lists, IsProven}
 use Rattle.trust_types.proofs.ProvenRosters.{proven_is_roster}
+use Rattle.trust_types.proofs.Ranks.{same_from_ranks, grade_rank}
 use Rattle.frozen.specs.Revision.{Revision, certificates}
 use Rattle.roster_form.specs.Bounded.{is_accepted}
-use Rattle.roster_form.specs.LevelRosters.{AreAmong}
-use Rattle.roster_form.specs.Candidates.{Rosters, IsSound, AreSound}
+use Rattle.roster_form.specs.declared.level_rosters.LevelRoster.{LevelRoster}
+use Rattle.roster_form.specs.LevelRosters.{lists_of, AreAmong}
+use Rattle.roster_form.specs.Candidates.{IsSound, AreSound, AreLowest, AreRostersFor}
 use Rattle.roster_form.proofs.Bounded.{all_rise, proven_is_bounded}
 
 pub sound : (f : Revision) (level : Level) (r : Lists) → IsProven (certificates f) level f.caps r → AreAmong (certificates f).accounts r → IsSound f level r
@@ -23,11 +28,6 @@ sound f level r proven among = record {
   bounded = proven_is_bounded (certificates f) level f.caps r proven;
   among = among;
 }
-
--- the same under other names of the graph and the level
-pub sound_at : (f g : Revision) (level grade : Level) (r : Lists) → IsProven (certificates f) level f.caps r → AreAmong (certificates f).accounts r → f ≡ g → grade ≡ level → IsSound g grade r
-sound_at f g level grade r proven among same at =
-    subst (λ (h : Revision). IsSound h grade r) same (subst (λ (l : Level). IsSound f l r) (sym at) (sound f level r proven among))
 
 rises_weakly : (xs : List ℕ) → AllPairs (λ x y. x < y) xs → (i j : ℕ) → i ≤ j → j < length xs → get_or xs i 0 ≤ get_or xs j 0
 rises_weakly xs rises i j order within = elim (cases_lt i j) [
@@ -66,8 +66,43 @@ found_accepted xs x r found rises is says =
     let both : (found ≡ true) ↔ Contains xs x = subst (λ (b : Bool). (b ≡ true) ↔ Contains xs x) (sym says) (contains_by_search xs x r (all_rise xs rises) is) in
     (accepted_by xs x found both, both)
 
-pub all_sound : (c : Rosters) → IsSound c.graph Apprentice c.apprentice → IsSound c.graph Journeyer c.journeyer → IsSound c.graph Master c.master → AreSound c
-all_sound c apprentice journeyer master Observer = tt
-all_sound c apprentice journeyer master Apprentice = apprentice
-all_sound c apprentice journeyer master Journeyer = journeyer
-all_sound c apprentice journeyer master Master = master
+-- the roster at a grade's place is sound at that grade
+sound_at_place : (f : Revision) (rosters : List LevelRoster) (level : Level) → AreLowest f rosters → 0 < rank level → (found : Option LevelRoster) →
+    slice_get rosters (rank level - 1) ≡ found → IfSome found (λ r. (r.level ≡ level) × IsSound f level (lists_of r))
+sound_at_place f rosters level lowest grade None is = tt
+sound_at_place f rosters level lowest grade (Some r) is =
+    let at = lowest (rank level - 1) r is in
+    let same : r.level ≡ level = same_from_ranks r.level level (omega (arith, at.0)) in
+    (same, subst (λ (l : Level). IsSound f l (lists_of r)) same (sound f r.level (lists_of r) at.1.proven at.1.among))
+
+-- what is found at a grade's place is the grade's roster, and sound
+pub found_sound : (f : Revision) (rosters : List LevelRoster) (level : Level) → AreLowest f rosters → 0 < rank level →
+    IfSome (slice_get rosters (rank level - 1)) (λ r. (r.level ≡ level) × IsSound f level (lists_of r))
+found_sound f rosters level lowest grade = sound_at_place f rosters level lowest grade (slice_get rosters (rank level - 1)) refl
+
+mapped_some : (P : Lists → Type 0) (Q : LevelRoster → Type 0) (found : Option LevelRoster) → IfSome found (λ r. Q r × P (lists_of r)) → IfSome (option_map lists_of found) P
+mapped_some P Q None each = tt
+mapped_some P Q (Some r) each = each.1
+
+sound_each : (f : Revision) (rosters : List LevelRoster) (level : Level) → AreLowest f rosters → (grade : Bool) → is_grade level ≡ grade →
+    IfSome (cond grade (slice_get (map lists_of rosters) (rank level - 1)) None) (IsSound f level)
+sound_each f rosters level lowest false is = tt
+sound_each f rosters level lowest true is =
+    rw (slice_get-map lists_of rosters (rank level - 1))
+    (mapped_some (IsSound f level) (λ r. r.level ≡ level) (slice_get rosters (rank level - 1)) (found_sound f rosters level lowest (grade_rank level is)))
+
+-- rosters of all grades, each proven, are sound
+pub all_sound : (f : Revision) (rosters : List LevelRoster) → AreRostersFor f rosters → AreSound (record { graph = f; grades = map lists_of rosters })
+all_sound f rosters are = record {
+  count = ap (λ (n : ℕ). n + 1) (length-map rosters lists_of) ∙ are.count;
+  each = λ level. sound_each f rosters level are.lowest (is_grade level) refl;
+}
+
+-- what holds of what a reference points to
+pub at_reference : (P : LevelRoster → Type 0) (found : Option (Bor LevelRoster)) → IfSome (option_copied found) P → IfSome found (λ r. P r.now)
+at_reference P None each = tt
+at_reference P (Some r) each = each
+
+pub some_weaker : {X : Type 0} {P Q : X → Type 0} (found : Option X) → ((x : X) → P x → Q x) → IfSome found P → IfSome found Q
+some_weaker None weaker each = tt
+some_weaker (Some x) weaker each = weaker x each

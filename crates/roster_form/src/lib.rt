@@ -1,4 +1,4 @@
-//! The form of a site's rosters: one for each grade, a candidate of three, and what is published.
+//! The form of a site's rosters: one for each grade, a candidate with all of them, and what is published.
 #![tactic(auto)]
 
 mod candidates;

@@ -19,7 +19,7 @@ pub struct Publication {
 
 impl Publication {
     /// The level that an account holds: the highest whose roster has it, Observer where none has. It takes no memory, and at
-    /// most three binary searches.
+    /// most six binary searches.
     pub fn level_of(&self, account: AccountNo) -> Level
         ensures { result ≡ held_level self.now.candidate account }
     {

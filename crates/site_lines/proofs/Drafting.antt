@@ -2,24 +2,24 @@
 use Rattle.std.proofs.Common.{bytes_eq, ◌≡◌, ◌≢◌, ℕ, zero, suc, ◌+◌, ◌<◌, ◌≤◌, Bool, true, false, ◌||◌, cond, List, [], ◌∷◌, ◌++◌, length, get_or, set, Option, Some, None, Result, Ok, subst, refl, sym, ◌∙◌, ap, arith, nat_lt, nat_eq}
 use Rattle.std.specs.Prelude.{position, IfSome}
 use Rattle.std.specs.List.{All}
-use Rattle.std.proofs.lemmas.List.{length_push, append-nil, length-set, get_or-set_same, get_or-set_other}
-use Rattle.std.proofs.lemmas.List.Elements.{filter_map-append, All-push, All-weaker}
-use Rattle.std.proofs.lemmas.List.Folds.{list_any-append, position_or_len_push}
+use Rattle.std.proofs.lemmas.List.{length_push, length-set, get_or-set_same, get_or-set_other}
+use Rattle.std.proofs.lemmas.List.Elements.{All-push, All-weaker}
+use Rattle.std.proofs.lemmas.List.Folds.{position_or_len_push}
 use Rattle.std.proofs.lemmas.List.Sums.{prefix_len-le-length}
 use Rattle.std.proofs.lemmas.Option.{cond_some}
-use Rattle.std.proofs.Math.Bool.{or-true, or-false}
 use Rattle.trust_types.specs.declared.graphs.Cert.{Cert}
 use Rattle.trust_types.specs.declared.limits.TheConstants.{MOST_ACCOUNTS}
 use Rattle.trust_types.specs.declared.records.Record.{Record}
-use Rattle.trust_types.specs.Kept.{accounts, is_seed, certs_of, names_seed, cert_of, joined_name}
+use Rattle.trust_types.specs.Kept.{accounts, is_seed, certs_of}
 use Rattle.trust_types.specs.NameLists.{number_of}
 use Rattle.std.specs.Option.{ok_or}
 use Rattle.trust_types.specs.declared.levels.Level.{Level}
-use Rattle.trust_types.specs.Levels.{level_of}
+use Rattle.trust_types.specs.Tables.{Table}
+use Rattle.trust_types.proofs.Changing.{accounts-join, is_seed-join, certs_of-join, accounts-seed, is_seed-seed, certs_of-seed, accounts-cert, is_seed-cert, certs_of-cert}
 use Rattle.text_lines.specs.declared.faults.TextKind.{TextKind}
-use Rattle.text_lines.specs.declared.faults.TextKind.TheVariants.{BadLevel, Unknown, SelfCert}
+use Rattle.text_lines.specs.declared.faults.TextKind.TheVariants.{Unknown, SelfCert}
 use Rattle.text_lines.specs.Steps.{fault_if}
-use Rattle.text_lines.specs.Places.{three_words, name_in}
+use Rattle.text_lines.specs.Places.{three_words, name_in, level_in}
 use Rattle.text_lines.proofs.Stepping.{bind-ok, ok_or-ok, fault_if-ok}
 use Rattle.cert_log.specs.Log.{IsLog}
 use Rattle.cert_log.specs.Standing.{IsBetween}
@@ -57,34 +57,34 @@ pub draft-join : (d new : SiteDraft) (k : List Record) (name : List ℕ) → IsS
     → new.names ≡ d.names ++ name ∷ [] → new.seeds.items ≡ d.seeds.items ++ false ∷ [] → new.certs ≡ d.certs → new.giver ≡ d.giver → length d.names < MOST_ACCOUNTS
     → IsSiteDraft new (k ++ join name ∷ [])
 draft-join d new k name is ne fe ce ge less =
-    let acc : accounts (k ++ join name ∷ []) ≡ accounts k ++ name ∷ [] = filter_map-append joined_name k (join name ∷ []) in
+    let acc : accounts (k ++ join name ∷ []) ≡ accounts k ++ name ∷ [] = accounts-join k (join name) name refl in
     let more : length (accounts (k ++ join name ∷ [])) ≡ length (accounts k) + 1 = ap length acc ∙ length_push (accounts k) name in
-    let given : certs_of (k ++ join name ∷ []) ≡ certs_of k = filter_map-append cert_of k (join name ∷ []) ∙ append-nil (certs_of k) in
+    let given : certs_of (k ++ join name ∷ []) ≡ certs_of k = certs_of-join k (join name) name refl in
     record {
       named = ne ∙ ap (λ xs. xs ++ name ∷ []) is.named ∙ sym acc;
       few = rw more (omega (arith, less, ap length is.named));
       flags = ap length fe ∙ length_push d.seeds.items false ∙ ap (λ m. m + 1) is.flags ∙ sym more;
-      seeded = λ a. ap (λ xs. get_or xs a false) fe ∙ get_or-push_default d.seeds.items a false ∙ is.seeded a ∙ sym (list_any-append (names_seed a) k (join name ∷ []) ∙ or-false (is_seed k a));
+      seeded = λ a. ap (λ xs. get_or xs a false) fe ∙ get_or-push_default d.seeds.items a false ∙ is.seeded a ∙ sym (is_seed-join k (join name) name a refl);
       logged = rw (ce, given) is.logged;
       known = rw (ge, acc) (known_more d.giver (accounts k) name is.known);
       between = rw given (between_more _ _ _ (rw more (omega arith)) is.between);
     }
 
-set-is : (xs : List Bool) (i a : ℕ) (b : Bool) → i < length xs → nat_eq a i ≡ b → get_or (set xs i true) a false ≡ (get_or xs a false || (b || false))
-set-is xs i a true l e = let same : a ≡ i = grind arith in rw (same, get_or-set_same xs i true false l) (sym (or-true (get_or xs i false)))
-set-is xs i a false l e = let other : a ≢ i = grind arith in rw (get_or-set_other xs i a true false other) (sym (or-false (get_or xs a false)))
+set-is : (xs : List Bool) (i a : ℕ) (b : Bool) → i < length xs → nat_eq a i ≡ b → get_or (set xs i true) a false ≡ cond b true (get_or xs a false)
+set-is xs i a true l e = let same : a ≡ i = grind arith in rw (same, get_or-set_same xs i true false l) refl
+set-is xs i a false l e = let other : a ≢ i = grind arith in rw (get_or-set_other xs i a true false other) refl
 
 pub draft-seed : (d new : SiteDraft) (k : List Record) (i : ℕ) → IsSiteDraft d k → i < length (accounts k)
     → new.names ≡ d.names → new.seeds.items ≡ set d.seeds.items i true → new.certs ≡ d.certs → new.giver ≡ d.giver → IsSiteDraft new (k ++ seed i ∷ [])
 draft-seed d new k i is l ne fe ce ge =
-    let acc : accounts (k ++ seed i ∷ []) ≡ accounts k = filter_map-append joined_name k (seed i ∷ []) ∙ append-nil (accounts k) in
-    let given : certs_of (k ++ seed i ∷ []) ≡ certs_of k = filter_map-append cert_of k (seed i ∷ []) ∙ append-nil (certs_of k) in
+    let acc : accounts (k ++ seed i ∷ []) ≡ accounts k = accounts-seed k (seed i) i refl in
+    let given : certs_of (k ++ seed i ∷ []) ≡ certs_of k = certs_of-seed k (seed i) i refl in
     let inside : i < length d.seeds.items = rw is.flags l in
     record {
       named = ne ∙ is.named ∙ sym acc;
       few = rw acc is.few;
       flags = ap length fe ∙ length-set d.seeds.items i true ∙ is.flags ∙ ap length (sym acc);
-      seeded = λ a. ap (λ xs. get_or xs a false) fe ∙ set-is d.seeds.items i a (nat_eq a i) inside refl ∙ ap (λ b. b || (nat_eq a i || false)) (is.seeded a) ∙ sym (list_any-append (names_seed a) k (seed i ∷ []));
+      seeded = λ a. ap (λ xs. get_or xs a false) fe ∙ set-is d.seeds.items i a (nat_eq a i) inside refl ∙ ap (λ b. cond (nat_eq a i) true b) (is.seeded a) ∙ sym (is_seed-seed k (seed i) i a refl);
       logged = rw (ce, given) is.logged;
       known = rw (ge, acc) is.known;
       between = rw (acc, given) is.between;
@@ -92,17 +92,17 @@ draft-seed d new k i is l ne fe ce ge =
 
 -- the records' certificates, after one more
 pub given-push : (k : List Record) (c : Cert) → certs_of (k ++ cert c.from c.to c.level ∷ []) ≡ certs_of k ++ c ∷ []
-given-push k c = filter_map-append cert_of k (cert c.from c.to c.level ∷ [])
+given-push k c = certs_of-cert k (cert c.from c.to c.level) c refl
 
 pub draft-cert : (d new : SiteDraft) (k : List Record) (c : Cert) → IsSiteDraft d k → IsBetween (length (accounts k)) c
     → new.names ≡ d.names → new.seeds.items ≡ d.seeds.items → IsLog new.certs (certs_of k ++ c ∷ []) → new.giver ≡ d.giver → IsSiteDraft new (k ++ cert c.from c.to c.level ∷ [])
 draft-cert d new k c is between ne fe ce ge =
-    let acc : accounts (k ++ cert c.from c.to c.level ∷ []) ≡ accounts k = filter_map-append joined_name k (cert c.from c.to c.level ∷ []) ∙ append-nil (accounts k) in
+    let acc : accounts (k ++ cert c.from c.to c.level ∷ []) ≡ accounts k = accounts-cert k (cert c.from c.to c.level) c refl in
     record {
       named = ne ∙ is.named ∙ sym acc;
       few = rw acc is.few;
       flags = ap length fe ∙ is.flags ∙ ap length (sym acc);
-      seeded = λ a. ap (λ xs. get_or xs a false) fe ∙ is.seeded a ∙ sym (list_any-append (names_seed a) k (cert c.from c.to c.level ∷ []) ∙ or-false (is_seed k a));
+      seeded = λ a. ap (λ xs. get_or xs a false) fe ∙ is.seeded a ∙ sym (is_seed-cert k (cert c.from c.to c.level) c a refl);
       logged = rw (given-push k c) ce;
       known = rw (ge, acc) is.known;
       between = rw (acc, given-push k c) (All-push (IsBetween (length (accounts k))) (certs_of k) c is.between between);
@@ -125,10 +125,10 @@ pair-between names giver taker pair level e =
     })
 
 -- A certificate that a line gives is between two of the accounts.
-pub given-between : (k : List Record) (ws : List (List ℕ)) (c : Cert) → given_cert (accounts k) ws ≡ Ok c → IsBetween (length (accounts k)) c
-given-between k ws c e =
+pub given-between : (table : Table) (k : List Record) (ws : List (List ℕ)) (c : Cert) → given_cert table (accounts k) ws ≡ Ok c → IsBetween (length (accounts k)) c
+given-between table k ws c e =
     let three = bind-ok (three_words ws) _ c e in
-    let level = bind-ok (ok_or (level_of three.0.2) BadLevel) _ c three.2 in
+    let level = bind-ok (level_in table three.0.2) _ c three.2 in
     let pair = bind-ok (pair_in (accounts k) three.0.0 three.0.1) _ c level.2 in
     let given : Cert = record { from = pair.0.0; to = pair.0.1; level = level.0 } in
     let is : ◌≡◌ {A = Result Cert TextKind} (Ok given) (Ok c) = pair.2 in

@@ -3,12 +3,12 @@ use Rattle.std.proofs.Common.{◌≡◌, ℕ, ◌<◌, ◌≤◌, Bool, true, fa
 use Rattle.std.proofs.lemmas.Bool.Decides.{nat_tests}
 use Rattle.std.proofs.lemmas.List.{take-append-le, take_all, length-take-le, append_assoc, append-nil}
 use Rattle.std.proofs.lemmas.Slice.Eq.{bytes_eq-Decides}
-use Rattle.trust_types.specs.Tables.{standard_table}
+use Rattle.trust_types.specs.Tables.{standard_entries}
 use Rattle.text_lines.specs.declared.faults.TextKind.{TextKind}
 use Rattle.text_lines.specs.declared.faults.TextKind.TheVariants.{BadNumber, Long, Empty}
 use Rattle.text_lines.specs.Numbers.{number}
 use Rattle.text_lines.specs.Steps.{◌>>=◌}
-use Rattle.site_lines.specs.Site.{numbers, judged, table_in}
+use Rattle.site_lines.specs.Site.{numbers, judged, entries_in}
 
 -- Numbers that were read, before those of what is left.
 abbrev pub after : List ℕ → Result (List ℕ) TextKind → Result (List ℕ) TextKind
@@ -53,8 +53,8 @@ twice_by n xs x false e =
 pub take-twice : (n : ℕ) (xs : List ℕ) (x : ℕ) → take n (take n xs ++ x ∷ []) ≡ take n (xs ++ x ∷ [])
 take-twice n xs x = twice_by n xs x (nat_le n (length xs)) refl
 
-long_table : (entries : List ℕ) → 16 < length entries → judged entries ≡ Err Long
-long_table entries long =
+long_entries : (entries : List ℕ) → 16 < length entries → judged entries ≡ Err Long
+long_entries entries long =
     let some : nat_eq (length entries) 0 ≡ false = grind (arith, nat_tests) in
     let many : nat_lt 16 (length entries) ≡ true = grind (arith, nat_tests) in
     rw (some, many, judged) refl
@@ -63,7 +63,7 @@ judged_by : (entries : List ℕ) (b : Bool) → nat_le 17 (length entries) ≡ b
 judged_by entries true e =
     let enough : 17 ≤ length entries = grind (arith, nat_tests) in
     let long : length (take 17 entries) ≡ 17 = length-take-le 17 entries enough in
-    long_table (take 17 entries) (omega arith) ∙ sym (long_table entries (omega arith))
+    long_entries (take 17 entries) (omega arith) ∙ sym (long_entries entries (omega arith))
 judged_by entries false e =
     let short : length entries ≤ 17 = grind (arith, nat_tests) in
     ap judged (take_all 17 entries short)
@@ -72,27 +72,27 @@ judged_by entries false e =
 pub judged-first : (entries : List ℕ) → judged (take 17 entries) ≡ judged entries
 judged-first entries = judged_by entries (nat_le 17 (length entries)) refl
 
-pub table_in-none : (words : List (List ℕ)) → words ≡ [] → table_in words ≡ Err Empty
-table_in-none words e = rw e refl
+pub entries_in-none : (words : List (List ℕ)) → words ≡ [] → entries_in words ≡ Err Empty
+entries_in-none words e = rw e refl
 
-pub table_in-default : (words others : List (List ℕ)) (word : List ℕ) → words ≡ word ∷ others → others ≡ [] → bytes_eq word (codes "default") ≡ true → table_in words ≡ Ok standard_table
-table_in-default words others word e f is = rw (e, f, is) refl
+pub entries_in-default : (words others : List (List ℕ)) (word : List ℕ) → words ≡ word ∷ others → others ≡ [] → bytes_eq word (codes "default") ≡ true → entries_in words ≡ Ok standard_entries
+entries_in-default words others word e f is = rw (e, f, is) refl
 
 not_number : number (codes "default") ≡ None
 unfolding number
 not_number = refl
 
-pub table_in-more : (words others more : List (List ℕ)) (word next : List ℕ) → words ≡ word ∷ others → others ≡ next ∷ more → bytes_eq word (codes "default") ≡ true → table_in words ≡ Err BadNumber
-table_in-more words others more word next e f is =
+pub entries_in-more : (words others more : List (List ℕ)) (word next : List ℕ) → words ≡ word ∷ others → others ≡ next ∷ more → bytes_eq word (codes "default") ≡ true → entries_in words ≡ Err BadNumber
+entries_in-more words others more word next e f is =
     let same : word ≡ codes "default" = (bytes_eq-Decides word (codes "default")).0 is in
     rw (e, f, same, not_number) refl
 
-other_by : (word : List ℕ) (others : List (List ℕ)) → bytes_eq word (codes "default") ≡ false → table_in (word ∷ others) ≡ (numbers (word ∷ others) >>= judged)
+other_by : (word : List ℕ) (others : List (List ℕ)) → bytes_eq word (codes "default") ≡ false → entries_in (word ∷ others) ≡ (numbers (word ∷ others) >>= judged)
 other_by word [] is = rw is refl
 other_by word (next ∷ more) is = refl
 
-pub table_in-numbers : (words others : List (List ℕ)) (word all : List ℕ) → words ≡ word ∷ others → bytes_eq word (codes "default") ≡ false → numbers (word ∷ others) ≡ Ok all → table_in words ≡ judged all
-table_in-numbers words others word all e is so = ap table_in e ∙ other_by word others is ∙ rw so refl
+pub entries_in-numbers : (words others : List (List ℕ)) (word all : List ℕ) → words ≡ word ∷ others → bytes_eq word (codes "default") ≡ false → numbers (word ∷ others) ≡ Ok all → entries_in words ≡ judged all
+entries_in-numbers words others word all e is so = ap entries_in e ∙ other_by word others is ∙ rw so refl
 
-pub table_in-bad : (words others : List (List ℕ)) (word : List ℕ) → words ≡ word ∷ others → bytes_eq word (codes "default") ≡ false → numbers (word ∷ others) ≡ Err BadNumber → table_in words ≡ Err BadNumber
-table_in-bad words others word e is so = ap table_in e ∙ other_by word others is ∙ rw so refl
+pub entries_in-bad : (words others : List (List ℕ)) (word : List ℕ) → words ≡ word ∷ others → bytes_eq word (codes "default") ≡ false → numbers (word ∷ others) ≡ Err BadNumber → entries_in words ≡ Err BadNumber
+entries_in-bad words others word e is so = ap entries_in e ∙ other_by word others is ∙ rw so refl

@@ -4,7 +4,7 @@ use Rattle.std.specs.Prelude.{IsTrue}
 use Rattle.std.proofs.Math.Path.{fun_ext}
 use Rattle.std.proofs.lemmas.Bool.{false≢true}
 use Rattle.trust_types.specs.declared.levels.Level.{Level}
-use Rattle.trust_types.specs.declared.levels.Level.TheVariants.{Observer, Apprentice, Journeyer, Master}
+use Rattle.trust_types.specs.declared.levels.Level.TheVariants.{Observer, Apprentice, Journeyer, Master, Fellow, Warden, Elder}
 use Rattle.trust_types.specs.declared.records.Record.{Record}
 use Rattle.trust_types.specs.Levels.{IsGrade, is_grade}
 use Rattle.trust_types.specs.Graph.{Certificates}
@@ -28,6 +28,9 @@ observer-from Observer g = refl
 observer-from Apprentice g = absurd (false≢true (sym g))
 observer-from Journeyer g = absurd (false≢true (sym g))
 observer-from Master g = absurd (false≢true (sym g))
+observer-from Fellow g = absurd (false≢true (sym g))
+observer-from Warden g = absurd (false≢true (sym g))
+observer-from Elder g = absurd (false≢true (sym g))
 
 -- levels that are the same as far as they are grades
 same_level_by : (x y : Level) (b c : Bool) → is_grade x ≡ b → is_grade y ≡ c → ((level : Level) → IsGrade level → x ≡ level → y ≡ level) → ((level : Level) → IsGrade level → y ≡ level → x ≡ level) → x ≡ y

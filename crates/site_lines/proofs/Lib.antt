@@ -3,4 +3,5 @@ mod Drafting
 mod Entering
 mod Marking
 mod Parting
+pub mod Keeping
 pub mod Graphs

@@ -8,8 +8,8 @@ use crate::seeds::mark;
 use cert_log::CertLog;
 use name_index::NameIndex;
 use std::alloc::Global;
-use text_lines::{LineFault, TextKind, Words, fault_if, fault_unless, is_line, is_same, name_in};
-use trust_types::{AccountNo, Cert, Level, Name, NoMemory};
+use text_lines::{LineFault, TextKind, Words, fault_if, fault_unless, is_line, is_same, level_in, name_in};
+use trust_types::{AccountNo, Caps, Cert, Name, NoMemory};
 
 /// A site while its lines are read: its accounts, seeds and certificates so far. Contracts tell of which records it is a
 /// draft.
@@ -53,16 +53,16 @@ impl SiteDraft {
         }
     }
 
-    /// Reads one line more.
+    /// Reads one line more of a site with that table.
     ///
     /// # Errors
     /// [`LineFault::Kind`] where the line has a fault, with its kind, unless memory ran out, and only there;
     /// [`LineFault::NoMemory`] where memory ran out. What the draft holds after an error is open.
     #[tactic(auto, unfolding(crate::specs::Site::site_line))]
-    pub fn read(&mut self, line: &[u8]) -> Result<(), LineFault>
-        ensures { (k : List Record) → IsSiteDraft self.old k → Reads IsSiteDraft result self.new (site_line k line.now) }
+    pub fn read(&mut self, table: &Caps, line: &[u8]) -> Result<(), LineFault>
+        ensures { (k : List Record) → IsSiteDraft self.old k → Reads IsSiteDraft result self.new (site_line table.now k line.now) }
     {
-        let outcome = self.form(&mut Words::of(line));
+        let outcome = self.form(table, &mut Words::of(line));
         // Keywords, names and levels are words, so a line that was read is one. The test may come last, and sees only lines
         // with a fault.
         if outcome.is_err() && !is_line(line) {
@@ -79,8 +79,8 @@ impl SiteDraft {
     }
 
     /// Reads a line of these words.
-    fn form(&mut self, words: &mut Words) -> Result<(), LineFault>
-        ensures { (k : List Record) → IsSiteDraft self.old k → Adds k result self.new (form k words.old) }
+    fn form(&mut self, table: &Caps, words: &mut Words) -> Result<(), LineFault>
+        ensures { (k : List Record) → IsSiteDraft self.old k → Adds k result self.new (form table.now k words.old) }
     {
         let keyword = words.first()?;
         if is_same(keyword, b"account") {
@@ -90,7 +90,7 @@ impl SiteDraft {
             return self.seed(words);
         }
         if is_same(keyword, b"cert") {
-            return self.cert(words);
+            return self.cert(table, words);
         }
         Err(LineFault::Kind(TextKind::BadLine))
     }
@@ -115,11 +115,11 @@ impl SiteDraft {
     }
 
     /// Reads what is behind `cert`.
-    fn cert(&mut self, words: &mut Words) -> Result<(), LineFault>
-        ensures { (k : List Record) → IsSiteDraft self.old k → Adds k result self.new (cert_line k words.old) }
+    fn cert(&mut self, table: &Caps, words: &mut Words) -> Result<(), LineFault>
+        ensures { (k : List Record) → IsSiteDraft self.old k → Adds k result self.new (cert_line table.now k words.old) }
     {
         self.settle()?;
-        let cert = self.given_cert(words)?;
+        let cert = self.given_cert(table, words)?;
         fault_unless(self.certs.push(cert)?, TextKind::TooMany)?;
         Ok(())
     }
@@ -133,12 +133,12 @@ impl SiteDraft {
     }
 
     /// The certificate behind `cert`.
-    fn given_cert(&mut self, words: &mut Words) -> Result<Cert, TextKind>
+    fn given_cert(&mut self, table: &Caps, words: &mut Words) -> Result<Cert, TextKind>
         ensures draft { (k : List Record) → IsSiteDraft self.old k → IsSiteDraft self.new k }
-        ensures cert { (k : List Record) → IsSiteDraft self.old k → result ≡ given_cert (accounts k) words.old }
+        ensures cert { (k : List Record) → IsSiteDraft self.old k → result ≡ given_cert table.now (accounts k) words.old }
     {
         let (giver, taker, word) = words.three()?;
-        let level = Level::of_name(word).ok_or(TextKind::BadLevel)?;
+        let level = level_in(table, word)?;
         let (from, to) = self.pair(giver, taker)?;
         Ok(Cert { from, to, level })
     }

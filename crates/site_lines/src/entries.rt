@@ -6,19 +6,19 @@ ghost use Rattle.site_lines.specs.Site.{numbers, judged};
 
 use std::marker::Model;
 use text_lines::{TextKind, Words, number};
-use trust_types::Caps;
+use trust_types::Entries;
 
 /// One more than a table has: further entries make no difference.
 const ROOM: usize = 17;
 
 /// The first 17 entries of a table. Contracts see their list.
 #[derive(Drop)]
-pub struct Entries {
+pub struct FirstEntries {
     kept: [u32; ROOM],
     len: usize,
 }
 
-impl Model for Entries {
+impl Model for FirstEntries {
     ghost use Rattle.std.specs.Prelude.{ℕ, List, take, ◌≤◌};
 
     ghost Value = { List ℕ };
@@ -28,11 +28,11 @@ impl Model for Entries {
     ghost invariant = { λ entries. entries.len ≤ 17 };
 }
 
-impl Entries {
-    fn new() -> Entries
+impl FirstEntries {
+    fn new() -> FirstEntries
         ensures { result ≡ [] }
     {
-        Entries {
+        FirstEntries {
             kept: [0; ROOM],
             len: 0,
         }
@@ -49,10 +49,10 @@ impl Entries {
     }
 
     /// The entries that the words write; `None` where one of them is no number.
-    pub fn read(first: &[u8], others: &mut Words) -> Option<Entries>
+    pub fn read(first: &[u8], others: &mut Words) -> Option<FirstEntries>
         ensures { MatchOption result (numbers (first.now ∷ others.old) ≡ Err BadNumber) (λ entries. (all : List ℕ) × (numbers (first.now ∷ others.old) ≡ Ok all) × (entries ≡ take 17 all)) }
     {
-        let mut entries = Entries::new();
+        let mut entries = FirstEntries::new();
         let Some(entry) = number(first) else {
             return None;
         };
@@ -66,12 +66,12 @@ impl Entries {
         Some(entries)
     }
 
-    /// The table that they are, or its fault.
-    pub fn table(&self) -> Result<Caps, TextKind>
+    /// Those of a table that they are, or their fault.
+    pub fn judged(&self) -> Result<Entries, TextKind>
         ensures { result ≡ judged self.now }
     {
-        match Caps::read(&self.kept[..self.len]) {
-            Ok(caps) => Ok(caps),
+        match Entries::read(&self.kept[..self.len]) {
+            Ok(entries) => Ok(entries),
             Err(fault) => Err(TextKind::of_table(fault)),
         }
     }

@@ -10,4 +10,4 @@ mod tables;
 
 pub use drafts::SiteDraft;
 pub use parts::SiteParts;
-pub use tables::read_table;
+pub use tables::{is_levels_line, read_entries, read_levels};

@@ -1,3 +1,4 @@
 mod Parting
 mod Counting
 mod Composing
+mod Heading

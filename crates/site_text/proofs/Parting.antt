@@ -1,8 +1,8 @@
 -- The lines of a text up to the first that passes a test, and from it on.
-use Rattle.std.proofs.Common.{ℕ, suc, ◌≡◌, ◌+◌, Bool, List, [], ◌∷◌, true, false, Option, Some, None, length, take, drop, refl, ap, ◌∙◌, arith}
+use Rattle.std.proofs.Common.{ℕ, suc, ◌≡◌, ◌+◌, Bool, List, [], ◌∷◌, true, false, Option, Some, None, length, take, drop, refl, ap, sym, ◌∙◌, arith}
 use Rattle.std.specs.List.{before_first, position_or_len}
 use native.Mathlib.Numerals.{unary_clauses}
-use Rattle.site_text.specs.inner.Parts.{claim_from}
+use Rattle.site_text.specs.inner.Parts.{claim_from, claim_number}
 
 -- The lines from that one on.
 abbrev pub from_first : (List ℕ → Bool) → List (List ℕ) → List (List ℕ)
@@ -38,9 +38,10 @@ pub from-never : (ls : List (List ℕ)) → from_first never ls ≡ []
 from-never [] = refl
 from-never (line ∷ others) = from-more never line others refl ∙ from-never others
 
-pub no_claim : (first : Option (List ℕ)) (others : List (List ℕ)) → claim_from first others ≡ [] → first ≡ None
-no_claim None others e = refl
-no_claim (Some line) others e = cc
+-- So then all of them were read, behind so many.
+pub all-read : (first : Option (List ℕ)) (ls rest : List (List ℕ)) (before read : ℕ) → from_first never ls ≡ claim_from first rest → claim_number first read ≡ before + 1 + length (before_first never ls) → read ≡ before + length ls
+all-read None ls rest before read e number = omega (arith, number, ap length (before-never ls))
+all-read (Some line) ls rest before read e number = let clash : [] ≡ line ∷ rest = sym (from-never ls) ∙ e in cc
 
 pub length-first : {X : Type 0} (xs : List X) (y : X) (ys : List X) → xs ≡ y ∷ ys → length xs ≡ length ys + 1
 length-first xs y ys e = rw e (simp unary_clauses refl)

@@ -1,6 +1,7 @@
 -- What is the same of a site, however it is kept: as a text's lines, as a frozen graph, or in a proof.
 use Rattle.std.specs.Prelude.{ℕ, ◌≡◌, List, length}
 use Rattle.trust_types.specs.Graph.{Certificates}
+use Rattle.trust_types.specs.Tables.{Table}
 use Rattle.trust_types.specs.Kept.{accounts, kept_certificates}
 use Rattle.trust_types.specs.Layout.{row_certificates as certificates_in}
 use Rattle.trust_types.specs.Lines.{flow_of}
@@ -10,7 +11,7 @@ use Rattle.site_text.specs.Site.{SiteText, ProofText}
 
 -- A site's capacity table, the names of its accounts by number, and what the metric reads of it.
 pub record View : Type 0 where
-  pub table : List ℕ
+  pub table : Table
   pub names : List (List ℕ)
   pub graph : Certificates
 
@@ -23,7 +24,7 @@ of_frozen f = record { table = f.caps; names = f.names; graph = certificates_of 
 abbrev pub of_proof : Proof → View
 of_proof p = record { table = p.caps; names = p.names.items; graph = certificates_in p.graph }
 
--- A frozen graph of just the site of a text. Its revision is the number of the text's lines but the first, which is that of
+-- A frozen graph of just the site of a text. Its revision is the number of the lines behind the text's head, which is that of
 -- its records.
 pub record IsFrozenOf (s : SiteText) (f : Revision) : Type 0 where
   pub same : of_frozen f ≡ of_text s

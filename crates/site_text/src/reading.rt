@@ -3,6 +3,9 @@
 ghost use Rattle.std.specs.Prelude.{◌≡◌, ◌+◌, ◌≤◌, ℕ, List, [], IfOk, OnOk, IsTrue, drop, length, option_map};
 ghost use Rattle.std.specs.List.{before_first, position_or_len};
 ghost use Rattle.trust_types.specs.Levels.{IsGrade};
+ghost use Rattle.trust_types.specs.Tables.{IsLevelCount};
+ghost use Rattle.trust_types.specs.Graph.{KeepsLevels};
+ghost use Rattle.frozen.specs.Revision.{certificates};
 ghost use Rattle.text_lines.specs.Words.{lines};
 ghost use Rattle.text_lines.specs.Reading.{reading, ReadsAll};
 ghost use Rattle.site_lines.specs.Site.{site_line};
@@ -11,17 +14,17 @@ ghost use Rattle.claim_lines.specs.Drafts.{IsClaimDraft, ArePartsOf as AreClaime
 ghost use Rattle.site_lines.specs.Drafts.{ArePartsOf};
 ghost use Rattle.trust_types.specs.declared.records.Record.{Record};
 ghost use Rattle.trust_types.specs.Kept.{accounts};
-ghost use Rattle.site_text.specs.Site.{site, proof, table_of, behind_first, claim_of};
+ghost use Rattle.site_text.specs.Site.{site, proof, levels_behind, table_of, head_count, behind_head, claim_of};
 ghost use Rattle.site_text.specs.View.{IsFrozenOf, IsProofOf};
 ghost use Rattle.site_text.specs.Faults.{fault_of};
-ghost use Rattle.site_text.specs.inner.Parts.{IsPart, IsClaimed, claim_from, claim_number, ends_site};
+ghost use Rattle.site_text.specs.inner.Parts.{IsPart, IsClaimed, levels_count, behind_levels, claim_from, claim_number, ends_site};
 
 use crate::faults::SiteFault;
 use claim_lines::{ClaimDraft, ClaimParts, is_level_line, read_level};
 use cut_check::Proof;
 use frozen::Frozen;
 use name_index::NameIndex;
-use site_lines::{SiteDraft, SiteParts, read_table};
+use site_lines::{SiteDraft, SiteParts, is_levels_line, read_entries, read_levels};
 use std::alloc::Global;
 use std::sync::Arc;
 use text_lines::{Lines, TextFault, TextKind, at_line, fault_unless};
@@ -41,14 +44,42 @@ struct Claimed {
     draft: ClaimDraft,
 }
 
-/// Reads a text's first line, which is its table.
-fn read_first(text: &mut Lines) -> Result<Caps, TextFault>
+/// Reads a text's head, which is its table: the first line, and the second where that says how many levels there are.
+#[tactic(auto, unfolding(crate::specs::Site::table_of))]
+fn read_head(text: &mut Lines) -> Result<Caps, TextFault>
+    requires start { text.old.number ≡ 0 }
     ensures table { result ≡ table_of (lines text.old.bytes) }
-    ensures left { OnOk result (lines text.new.bytes ≡ behind_first (lines text.old.bytes)) }
-    ensures number { OnOk result (text.new.number ≡ text.old.number + 1) }
+    ensures left { OnOk result (lines text.new.bytes ≡ behind_head (lines text.old.bytes)) }
+    ensures number { OnOk result (text.new.number ≡ head_count (lines text.old.bytes)) }
+    ensures levels { IfOk result (λ caps. IsLevelCount caps.levels) }
 {
-    let line = at_line(1, text.next_line().ok_or(TextKind::BadLine))?;
-    at_line(1, read_table(line))
+    let Some(line) = text.next_line() else {
+        return Err(TextFault {
+            line: 1,
+            kind: TextKind::BadLine,
+        });
+    };
+    let entries = at_line(1, read_entries(line))?;
+    let levels = read_second(text)?;
+    Ok(Caps::of(levels, entries))
+}
+
+/// Reads the line behind the first where it says how many levels there are. Otherwise there are four.
+fn read_second(text: &mut Lines) -> Result<u32, TextFault>
+    ensures levels { result ≡ levels_behind (lines text.old.bytes) }
+    ensures left { OnOk result (lines text.new.bytes ≡ behind_levels (lines text.old.bytes)) }
+    ensures number { OnOk result (text.new.number ≡ text.old.number + levels_count (lines text.old.bytes)) }
+    ensures within { IfOk result (λ levels. IsLevelCount levels) }
+{
+    let mut ahead = text.fork();
+    let Some(line) = ahead.next_line() else {
+        return Ok(4);
+    };
+    if !is_levels_line(line) {
+        return Ok(4);
+    }
+    *text = ahead;
+    at_line(2, read_levels(line))
 }
 
 /// Whether the line ends the site, in a proof text or in one of a site.
@@ -58,16 +89,16 @@ fn ends_site(in_proof: bool, line: &[u8]) -> bool
     in_proof && is_level_line(line)
 }
 
-/// Reads the lines of a site behind the first: in a proof text up to the first `level` line, and else all.
+/// Reads the lines of a site behind its table: in a proof text up to the first `level` line, and else all.
 fn read_site_part<'a>(
     alloc: Global,
     text: &mut Lines<'a>,
+    table: &Caps,
     in_proof: bool,
 ) -> Result<SitePart<'a>, SiteFault>
-    requires first { text.old.number ≡ 1 }
-    ensures read { ReadsAll IsPart fault_of result (reading site_line 2 [] (before_first (ends_site in_proof) (lines text.old.bytes))) }
+    ensures read { ReadsAll IsPart fault_of result (reading (site_line table.now) (text.old.number + 1) [] (before_first (ends_site in_proof) (lines text.old.bytes))) }
     ensures left { IfOk result (λ part. drop (position_or_len (ends_site in_proof) (lines text.old.bytes)) (lines text.old.bytes) ≡ claim_from (option_map (λ line. line.now) part.level_line) (lines text.new.bytes)) }
-    ensures number { IfOk result (λ part. claim_number (option_map (λ line. line.now) part.level_line) text.new.number ≡ length (before_first (ends_site in_proof) (lines text.old.bytes)) + 2) }
+    ensures number { IfOk result (λ part. claim_number (option_map (λ line. line.now) part.level_line) text.new.number ≡ text.old.number + 1 + length (before_first (ends_site in_proof) (lines text.old.bytes))) }
 {
     let mut draft = SiteDraft::new(alloc);
     while let Some(line) = text.next_line() {
@@ -77,7 +108,7 @@ fn read_site_part<'a>(
                 level_line: Some(line),
             });
         }
-        match draft.read(line) {
+        match draft.read(table, line) {
             Ok(()) => {}
             Err(fault) => return Err(SiteFault::at_line(text.number(), fault)),
         }
@@ -113,11 +144,12 @@ fn read_claim(
     alloc: Global,
     text: &mut Lines,
     level_line: Option<&[u8]>,
+    table: &Caps,
     names: &NameIndex,
 ) -> Result<Claimed, SiteFault>
     requires few { length names.now ≤ MOST_ACCOUNTS }
     ensures read { let first = option_map (λ line. line.now) level_line.entry in
-        ReadsAll (IsClaimed (length names.now)) fault_of result (claim_of names.now (claim_number first text.old.number) (claim_from first (lines text.old.bytes))) }
+        ReadsAll (IsClaimed (length names.now)) fault_of result (claim_of table.now names.now (claim_number first text.old.number) (claim_from first (lines text.old.bytes))) }
     ensures grade { IfOk result (λ claimed. IsGrade claimed.level) }
     ensures root { IfOk result (λ claimed. (c : Claim) → IsClaimDraft (length names.now) claimed.draft c → IsTrue (has_root c)) }
 {
@@ -127,7 +159,7 @@ fn read_claim(
             kind: TextKind::MissingLevel,
         }));
     };
-    let level = at_line(text.number(), read_level(level_line))?;
+    let level = at_line(text.number(), read_level(table, level_line))?;
     let draft = read_claim_lines(alloc, text, names)?;
     at_line(
         text.number() + 1,
@@ -170,12 +202,14 @@ fn proof_of(
 /// ran out.
 pub fn read_site(alloc: Global, bytes: &[u8]) -> Result<Arc<Frozen>, SiteFault>
     requires few { length bytes.now ≤ 268435456 }
-    ensures { ReadsAll (λ f s. IsFrozenOf s f.value) fault_of result (site bytes.now) }
+    ensures read { ReadsAll (λ f s. IsFrozenOf s f.value) fault_of result (site bytes.now) }
+    ensures levels { IfOk result (λ f. KeepsLevels f.value.caps (certificates f.value)) }
 {
     let mut text = Lines::of(bytes);
-    let caps = read_first(&mut text)?;
-    let part = read_site_part(alloc, &mut text, false)?;
-    let revision = text.number() - 1;
+    let caps = read_head(&mut text)?;
+    let head = text.number();
+    let part = read_site_part(alloc, &mut text, &caps, false)?;
+    let revision = text.number() - head;
     let site = part.draft.finish(alloc)?;
     Ok(Frozen::of_index(
         alloc,
@@ -197,9 +231,9 @@ pub fn read_proof(alloc: Global, bytes: &[u8]) -> Result<Proof, SiteFault>
     ensures { ReadsAll (λ p t. IsProofOf t p) fault_of result (proof bytes.now) }
 {
     let mut text = Lines::of(bytes);
-    let caps = read_first(&mut text)?;
-    let part = read_site_part(alloc, &mut text, true)?;
-    let claimed = read_claim(alloc, &mut text, part.level_line, part.draft.names())?;
+    let caps = read_head(&mut text)?;
+    let part = read_site_part(alloc, &mut text, &caps, true)?;
+    let claimed = read_claim(alloc, &mut text, part.level_line, &caps, part.draft.names())?;
     let site = part.draft.finish(alloc)?;
     let claim = claimed.draft.finish(alloc)?;
     Ok(proof_of(alloc, caps, site, claimed.level, claim)?)

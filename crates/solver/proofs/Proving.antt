@@ -10,6 +10,7 @@ use Rattle.trust_types.specs.declared.flows.FlowLine.{FlowLine}
 use Rattle.trust_types.specs.declared.flows.Side.{Side}
 use Rattle.trust_types.specs.declared.flows.Side.TheVariants.{Outside, Pass, Full}
 use Rattle.trust_types.specs.Levels.{IsGrade}
+use Rattle.trust_types.specs.Tables.{Table}
 use Rattle.trust_types.specs.Graph.{Certificates, HasEdge}
 use Rattle.trust_types.specs.Rows.{GivesEachOnce}
 use Rattle.trust_types.specs.Flow.{Flow, IsServed}
@@ -85,7 +86,7 @@ value_same g cap side other same =
 pub record Written : Type 0 where
   pub g : Certificates
   pub level : Level
-  pub table : List ℕ
+  pub table : Table
   pub f : Flow
   pub side : Sides
   pub served : List ℕ
@@ -98,7 +99,7 @@ pub record Written : Type 0 where
   pub sides : AreSidesBelow side (g.accounts + 1) pass full
 
 -- those that a reader of the graph's accounts, of its edges and of its nodes wrote
-abbrev pub written : {g : Certificates} {level : Level} {table : List ℕ} {f : Flow} {side : Sides} {served : List ℕ} {lines : List FlowLine} {pass full : List Node} (n : ℕ) → n ≡ g.accounts →
+abbrev pub written : {g : Certificates} {level : Level} {table : Table} {f : Flow} {side : Sides} {served : List ℕ} {lines : List FlowLine} {pass full : List Node} (n : ℕ) → n ≡ g.accounts →
     IsSolved g level table f side → ListsBelow (λ a. a) (IsServed n f) n served → AreLinesOf f lines → AreSidesBelow side (n + 1) pass full → Written
 written {g} {level} {table} {f} {side} {served} {lines} {pass} {full} n all solved serves units sides = record {
   g = g;

@@ -5,7 +5,7 @@ ghost use Rattle.trust_types.specs.Levels.{IsGrade};
 ghost use Rattle.frozen.specs.Revision.{certificates};
 ghost use Rattle.split_graph.specs.Network.{Fits};
 ghost use Rattle.roster_form.specs.LevelRosters.{lists_of};
-ghost use Rattle.roster_form.specs.Candidates.{IsSound, AreSound, IsRosterFor};
+ghost use Rattle.roster_form.specs.Candidates.{IsSound, AreSound, IsRosterFor, AreRostersFor};
 
 use crate::reading::roster_of;
 use flow_engine::Workspace;
@@ -77,7 +77,7 @@ fn solve_once<L: Ledger>(
     solve_level(alloc, &mut workspace, frozen, level, &mut steps)
 }
 
-/// Solves the graph at each grade in turn, in one workspace: its arcs are laid out once.
+/// Solves the graph at each grade of its table in turn, in one workspace: its arcs are laid out once.
 fn solve_grades<L: Ledger>(
     alloc: Global,
     frozen: &Arc<Frozen>,
@@ -91,10 +91,28 @@ fn solve_grades<L: Ledger>(
 {
     let mut steps = Steps::<L>::new(blank);
     let mut workspace = workspace_for(alloc, frozen)?;
-    let apprentice = solve_level(alloc, &mut workspace, frozen, Level::Apprentice, &mut steps)?;
-    let journeyer = solve_level_again(alloc, &mut workspace, frozen, Level::Journeyer, &mut steps)?;
-    let master = solve_level_again(alloc, &mut workspace, frozen, Level::Master, &mut steps)?;
-    Ok(Candidate::of(Arc::try_clone(frozen)?, apprentice, journeyer, master))
+    let rosters = rosters_of(alloc, &mut workspace, frozen, &mut steps)?;
+    Ok(Candidate::of(Arc::try_clone(frozen)?, rosters))
+}
+
+/// The rosters of all grades of the graph's table, lowest first.
+fn rosters_of<L: Ledger>(
+    alloc: Global,
+    workspace: &mut Workspace,
+    frozen: &Frozen,
+    steps: &mut Steps<L>,
+) -> Result<Vec<LevelRoster>, NoMemory>
+    requires { Fits frozen.now workspace.old.network.room }
+    ensures { IfOk result (λ rosters. AreRostersFor frozen.now rosters.items) }
+{
+    let levels = frozen.caps().levels();
+    let mut rosters = Vec::with_capacity(alloc, levels as usize - 1)?;
+    rosters.push_reserved(solve_level(alloc, workspace, frozen, Level::Apprentice, steps)?);
+    for rank in 2..levels {
+        let level = Level::of_rank(rank);
+        rosters.push_reserved(solve_level_again(alloc, workspace, frozen, level, steps)?);
+    }
+    Ok(rosters)
 }
 
 /// The roster of a grade over a graph. It takes memory once for the engine, as much as the graph's own accounts and certificates
@@ -110,7 +128,7 @@ pub fn solve_one(alloc: Global, frozen: &Frozen, level: Level) -> Result<LevelRo
     solve_once::<Brand>(alloc, frozen, level, Blank::new(1))
 }
 
-/// The rosters of the three grades over a graph. It takes memory once for the engine, as much as the graph's own accounts and
+/// The rosters of all grades of a graph's table. It takes memory once for the engine, as much as the graph's own accounts and
 /// certificates need, and for the rosters.
 ///
 /// # Errors

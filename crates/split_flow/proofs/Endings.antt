@@ -4,7 +4,7 @@ use Rattle.std.proofs.lemmas.Bool.Decides.{nat_tests}
 use Rattle.trust_types.specs.declared.levels.Level.{Level}
 use Rattle.trust_types.specs.declared.accounts.Node.{Node}
 use Rattle.trust_types.specs.declared.accounts.Node.TheVariants.{Account}
-use Rattle.trust_types.specs.Tables.{IsTable}
+use Rattle.trust_types.specs.Tables.{Table, IsTable}
 use Rattle.trust_types.specs.Graph.{Certificates, HasEdge}
 use Rattle.trust_types.specs.Capacity.{AreCapacities}
 use Rattle.trust_types.specs.Flow.{is_served, total}
@@ -29,7 +29,7 @@ served_at_first m x some = absurd (omega (arith, own_edge m (Account x)))
 pub record Sent : Type 0 where
   pub g : Certificates
   pub level : Level
-  pub table : List ℕ
+  pub table : Table
   pub cap : Node → ℕ
   pub c : Rests
   pub r : Rests

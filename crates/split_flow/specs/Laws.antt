@@ -3,7 +3,7 @@ use Rattle.std.specs.Prelude.{ℕ, Bool, true, false, List, ◌≡◌, ◌≤◌
 use Rattle.trust_types.specs.declared.levels.Level.{Level}
 use Rattle.trust_types.specs.declared.accounts.Node.{Node}
 use Rattle.trust_types.specs.declared.accounts.Node.TheVariants.{Account}
-use Rattle.trust_types.specs.Tables.{IsTable}
+use Rattle.trust_types.specs.Tables.{Table, IsTable}
 use Rattle.trust_types.specs.Graph.{Certificates, HasEdge}
 use Rattle.trust_types.specs.Capacity.{AreCapacities}
 use Rattle.trust_types.specs.Flow.{IsFeasible}
@@ -17,14 +17,14 @@ NoneToItself g level = (a : ℕ) → HasEdge g level (Account a) a → ⊥
 
 -- Units that were moved through the split graph of a level are a feasible flow
 abbrev pub MovedIsFeasible : Type 0
-MovedIsFeasible = (g : Certificates) (level : Level) (table : List ℕ) (cap : Node → ℕ) (c r : Rests) →
+MovedIsFeasible = (g : Certificates) (level : Level) (table : Table) (cap : Node → ℕ) (c r : Rests) →
     IsTable table → AreCapacities g level table cap → NoneToItself g level → IsSplitGraph g level cap c → IsMoved g.accounts c r →
     IsFeasible g level cap (units_moved r)
 
 -- Once nothing can be moved out of a set that has the source and not the supersink, the flow is greatest, and the set gives a
 -- cut of equal value
 abbrev pub SaturatedIsSolved : Type 0
-SaturatedIsSolved = (g : Certificates) (level : Level) (table : List ℕ) (cap : Node → ℕ) (c r : Rests) (reached : SplitNode → Bool) →
+SaturatedIsSolved = (g : Certificates) (level : Level) (table : Table) (cap : Node → ℕ) (c r : Rests) (reached : SplitNode → Bool) →
     IsTable table → AreCapacities g level table cap → NoneToItself g level → IsSplitGraph g level cap c → IsMoved g.accounts c r →
     PassesServed r → IsSaturated r reached → IsSolved g level table (units_moved r) (sides_of_reached reached)
 

@@ -5,6 +5,7 @@ use Rattle.trust_types.specs.declared.accounts.Node.{Node}
 use Rattle.trust_types.specs.declared.accounts.Node.TheVariants.{Root, Account}
 use Rattle.trust_types.specs.declared.flows.Side.{Side}
 use Rattle.trust_types.specs.declared.flows.Side.TheVariants.{Outside, Pass, Full}
+use Rattle.trust_types.specs.Tables.{Table}
 use Rattle.trust_types.specs.Graph.{Certificates}
 use Rattle.trust_types.specs.Capacity.{AreCapacities}
 use Rattle.trust_types.specs.Flow.{Flow}
@@ -13,7 +14,7 @@ use Rattle.split_flow.specs.Split.{SplitNode, InHalf, OutHalf, Supersink, source
 
 -- What rests of the split graph of a site, whatever units were moved: between two split nodes as much may be moved, one way
 -- and back together, as the capacities allow.
-pub record RestsOf (g : Certificates) (level : Level) (table : List ℕ) (r : Rests) : Type 0 where
+pub record RestsOf (g : Certificates) (level : Level) (table : Table) (r : Rests) : Type 0 where
   pub cap : Node → ℕ
   pub capacity : Rests
   pub capacities : AreCapacities g level table cap

@@ -6,7 +6,7 @@ use Rattle.std.proofs.lemmas.Bool.{false≢true}
 use Rattle.std.proofs.lemmas.Bool.Decides.{nat_tests}
 use Rattle.std.proofs.lemmas.Slice.Eq.{bytes_eq-Decides}
 use Rattle.trust_types.specs.declared.levels.Level.{Level}
-use Rattle.trust_types.specs.declared.levels.Level.TheVariants.{Observer, Apprentice, Journeyer, Master}
+use Rattle.trust_types.specs.declared.levels.Level.TheVariants.{Observer, Apprentice, Journeyer, Master, Fellow, Warden, Elder}
 use Rattle.trust_types.specs.Levels.{level_name, level_of, levels}
 use Rattle.trust_types.specs.Names.{is_name, is_name_byte}
 use Rattle.text_lines.specs.Words.{is_word, is_graphic}
@@ -33,6 +33,9 @@ is_word-level Observer = refl
 is_word-level Apprentice = refl
 is_word-level Journeyer = refl
 is_word-level Master = refl
+is_word-level Fellow = refl
+is_word-level Warden = refl
+is_word-level Elder = refl
 
 passes_by : {X : Type 0} (p : X → Bool) (y : X) (found : Option X) (x : X) (b : Bool) → p y ≡ b → cond b (Some y) found ≡ Some x → (found ≡ Some x → p x ≡ true) → p x ≡ true
 passes_by p y found x true e is further = let same : y ≡ x = cc in subst (λ z. p z ≡ true) same e

@@ -3,15 +3,18 @@
 use Rattle.std.proofs.Common.{◌≡◌, ℕ, Bool, true, false, List, [], ◌∷◌, Option, Some, None, Result, Ok, Err, refl, ap, sym, subst}
 use Rattle.std.specs.Option.{ok_or, IfSome}
 use Rattle.std.specs.Result.{IsErrAnd}
+use Rattle.trust_types.specs.declared.levels.Level.{Level}
+use Rattle.trust_types.specs.Levels.{level_of}
 use Rattle.trust_types.specs.Names.{is_name}
+use Rattle.trust_types.specs.Tables.{Table, has_level}
 use Rattle.text_lines.specs.declared.faults.TextKind.{TextKind}
-use Rattle.text_lines.specs.declared.faults.TextKind.TheVariants.{BadName}
+use Rattle.text_lines.specs.declared.faults.TextKind.TheVariants.{BadLevel, BadName}
 use Rattle.text_lines.specs.declared.faults.TextFault.{TextFault}
 use Rattle.text_lines.specs.declared.faults.LineFault.{LineFault}
 use Rattle.text_lines.specs.declared.faults.LineFault.TheVariants.{Kind}
 use Rattle.text_lines.specs.Reading.{Reads, ReadsAll}
 use Rattle.text_lines.specs.Steps.{◌>>=◌, fault_if, fault_unless, at_line}
-use Rattle.text_lines.specs.Places.{one_word, three_words, name_in}
+use Rattle.text_lines.specs.Places.{one_word, three_words, name_in, level_in}
 
 pub bind-ok : {A B E : Type 0} (step : Result A E) (further : A → Result B E) (y : B) → (step >>= further) ≡ Ok y → (x : A) × (step ≡ Ok x) × (further x ≡ Ok y)
 bind-ok (Ok x) further y e = (x, refl, e)
@@ -51,6 +54,15 @@ name_by false word name named e = let none : name_in word ≡ Err BadName = rw n
 
 pub name_in-ok : (word name : List ℕ) → name_in word ≡ Ok name → (name ≡ word) × (is_name word ≡ true)
 name_in-ok word name e = name_by (is_name word) word name refl e
+
+-- A level that stands in a level's place is what the word spells, and one of the table's.
+pub level_in-ok : (table : Table) (word : List ℕ) (level : Level) → level_in table word ≡ Ok level → (level_of word ≡ Some level) × (has_level table level ≡ true)
+level_in-ok table word level e =
+    let spelled = bind-ok (ok_or (level_of word) BadLevel) _ level e in
+    let has = bind-ok (fault_unless (has_level table spelled.0) BadLevel) _ level spelled.2 in
+    let is : ◌≡◌ {A = Result Level TextKind} (Ok spelled.0) (Ok level) = has.2 in
+    let same : spelled.0 ≡ level = cc in
+    subst (λ l. (level_of word ≡ Some l) × (has_level table l ≡ true)) same (ok_or-ok _ BadLevel spelled.0 spelled.1, fault_unless-ok _ BadLevel has.0 has.1)
 
 -- The fault of a line.
 pub faulty : {S D : Type 0} (Is : D → S → Type 0) (new : D) (result : Result (Unit {0}) LineFault) (said : Result S TextKind) (kind : TextKind) →

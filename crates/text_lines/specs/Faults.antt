@@ -3,12 +3,13 @@ use Rattle.std.specs.Prelude.{ℕ, List, ◌++◌, codes, decimal}
 use Rattle.trust_types.specs.declared.tables.CapsFault.{CapsFault}
 use Rattle.trust_types.specs.declared.tables.CapsFault.TheVariants as table
 use Rattle.text_lines.specs.declared.faults.TextKind.{TextKind}
-use Rattle.text_lines.specs.declared.faults.TextKind.TheVariants.{BadLine, BadNumber, Empty, Long, Zero, Large, Rises, EndNotOne, BadLevel, BadName, BadText, Unknown, SelfCert, Twice, TooMany, MissingLevel, MissingRoot}
+use Rattle.text_lines.specs.declared.faults.TextKind.TheVariants.{BadLine, BadNumber, BadCount, Empty, Long, Zero, Large, Rises, EndNotOne, BadLevel, BadName, BadText, Unknown, SelfCert, Twice, TooMany, MissingLevel, MissingRoot}
 use Rattle.text_lines.specs.declared.faults.TextFault.{TextFault}
 
 abbrev pub kind_name : TextKind → List ℕ
 kind_name BadLine = codes "BadLine"
 kind_name BadNumber = codes "BadNumber"
+kind_name BadCount = codes "BadCount"
 kind_name Empty = codes "Empty"
 kind_name Long = codes "Long"
 kind_name Zero = codes "Zero"
@@ -29,8 +30,9 @@ kind_name MissingRoot = codes "MissingRoot"
 abbrev pub fault_line : TextFault → List ℕ
 fault_line fault = codes "fault line " ++ decimal fault.line ++ codes " " ++ kind_name fault.kind ++ codes "\n"
 
--- The kind of a table's fault, which has the same name.
+-- The kind of a table's fault, which has the same name but for the number of levels.
 abbrev pub kind_of_table : CapsFault → TextKind
+kind_of_table table.Levels = BadCount
 kind_of_table table.Empty = Empty
 kind_of_table table.Long = Long
 kind_of_table table.Zero = Zero

@@ -15,6 +15,8 @@ pub enum TextKind {
     BadLine,
     /// A number's place holds another word.
     BadNumber,
+    /// The number of levels isn't 2 to 7.
+    BadCount,
     /// The table has no entry.
     Empty,
     /// The table has more than 16 entries.
@@ -27,7 +29,7 @@ pub enum TextKind {
     Rises,
     /// The table's last entry is not 1.
     EndNotOne,
-    /// A level's place holds another word.
+    /// A level's place holds another word, or a level that the text's table hasn't.
     BadLevel,
     /// A place for a name or a node holds another word.
     BadName,
@@ -55,6 +57,7 @@ impl TextKind {
         match self {
             TextKind::BadLine => "BadLine",
             TextKind::BadNumber => "BadNumber",
+            TextKind::BadCount => "BadCount",
             TextKind::Empty => "Empty",
             TextKind::Long => "Long",
             TextKind::Zero => "Zero",
@@ -73,11 +76,12 @@ impl TextKind {
         }
     }
 
-    /// The kind of a line whose entries have that fault as a table: that of the same name.
+    /// The kind of a line that has that fault as a table: that of the same name, and `BadCount` for the number of levels.
     pub fn of_table(fault: CapsFault) -> TextKind
         ensures { result ≡ kind_of_table fault }
     {
         match fault {
+            CapsFault::Levels => TextKind::BadCount,
             CapsFault::Empty => TextKind::Empty,
             CapsFault::Long => TextKind::Long,
             CapsFault::Zero => TextKind::Zero,

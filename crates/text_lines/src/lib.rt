@@ -10,8 +10,8 @@ mod steps;
 mod words;
 
 pub use faults::{LineFault, TextFault, TextKind};
-pub use lines::Lines;
+pub use lines::{Lines, line_count};
 pub use numbers::number;
-pub use places::{is_same, name_in};
+pub use places::{grade_in, is_same, level_in, name_in};
 pub use steps::{at_line, fault_if, fault_unless};
 pub use words::{Words, is_line};

@@ -56,6 +56,16 @@ impl<'a> Lines<'a> {
         Some(line)
     }
 
+    /// A reader of what is left, of its own: what it reads isn't read by this one. It copies no byte.
+    pub fn fork(&self) -> Lines<'a>
+        ensures { result ≡ self.now }
+    {
+        Lines {
+            read: self.read,
+            rest: self.rest,
+        }
+    }
+
     /// How many lines were read, which is the number of the last one, counted from 1.
     pub fn number(&self) -> u64
         ensures value { result ≡ self.now.number }
@@ -63,4 +73,13 @@ impl<'a> Lines<'a> {
     {
         self.read
     }
+}
+
+/// How many lines a text has. It searches the bytes once, many at a time.
+pub fn line_count(bytes: &[u8]) -> u64
+    ensures { result ≡ length (lines bytes.now) }
+{
+    let mut text = Lines::of(bytes);
+    while text.next_line().is_some() {}
+    text.number()
 }

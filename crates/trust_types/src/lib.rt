@@ -3,6 +3,7 @@
 
 mod accounts;
 mod cert_lists;
+mod entries;
 mod flows;
 mod graphs;
 mod laws;
@@ -17,6 +18,7 @@ mod texts;
 
 pub use accounts::{AccountNo, Node};
 pub use cert_lists::CertList;
+pub use entries::Entries;
 pub use flows::{FlowLine, Side};
 pub use graphs::{Cert, CertGraph};
 pub use laws::{
@@ -24,7 +26,10 @@ pub use laws::{
     total_at_most_cut, total_is_root_units,
 };
 pub use levels::Level;
-pub use limits::{MOST_ACCOUNTS, MOST_CERTS};
+pub use limits::{
+    FEWEST_LEVELS, GREATEST_ENTRY, LAST_MOMENT, LONGEST_TEXT, MOST_ACCOUNTS, MOST_CERTS,
+    MOST_ENTRIES, MOST_LEVELS,
+};
 pub use memory::NoMemory;
 pub use names::Name;
 pub use records::{Record, Secret};

@@ -1,6 +1,7 @@
 use crate::accounts::AccountNo;
 use crate::levels::Level;
 use crate::names::Name;
+use crate::tables::Caps;
 use crate::texts::Text;
 
 /// What is kept of an account's password.
@@ -26,12 +27,22 @@ pub enum Record {
         moment: u64,
         subject: AccountNo,
     },
+    /// An account is a seed no more.
+    Unseed {
+        moment: u64,
+        subject: AccountNo,
+    },
     /// An account certifies another, in place of what it said before.
     Cert {
         moment: u64,
         author: AccountNo,
         subject: AccountNo,
         level: Level,
+    },
+    /// The site has another capacity table from here on.
+    Table {
+        moment: u64,
+        caps: Caps,
     },
     /// An entry of the author's diary.
     Diary {

@@ -1,20 +1,21 @@
-ghost use Rattle.std.specs.Prelude.{◌≡◌, ◌≤◌, ◌↔◌, ◌<◌, IsOk, nat_lt, length};
-ghost use Rattle.std.specs.List.{list_any};
-ghost use Rattle.trust_types.specs.Tables.{IsTable, rises, table, standard_table};
+//! Capacity tables.
+
+ghost use Rattle.std.specs.Prelude.{◌≡◌, ◌≤◌, ◌↔◌, IsOk};
+ghost use Rattle.trust_types.specs.Tables.{AreEntries, IsTable, IsLevelCount, judged_table, standard_table, table_with, has_level};
 ghost use Rattle.trust_types.specs.Capacity.{entry};
 
+use crate::entries::Entries;
+use crate::levels::Level;
+use crate::limits::{FEWEST_LEVELS, GREATEST_ENTRY, MOST_ENTRIES, MOST_LEVELS};
 use std::marker::Model;
 use thiserror::Error;
 
-/// The most entries of a table.
-const MOST_ENTRIES: usize = 16;
-
-/// The greatest entry of a table.
-const GREATEST_ENTRY: u32 = 2_000;
-
-/// Why a list of entries is no capacity table. Of several faults the first of this list counts.
+/// Why a number of levels and a list of entries are no capacity table. Of several faults the first of this list counts.
 #[derive(Clone, Copy, Debug, Drop, PartialEq, Eq, Error)]
 pub enum CapsFault {
+    /// The number of levels isn't 2 to 7.
+    #[error("there aren't {FEWEST_LEVELS} to {MOST_LEVELS} levels")]
+    Levels,
     /// There is no entry.
     #[error("the table has no entry")]
     Empty,
@@ -35,115 +36,104 @@ pub enum CapsFault {
     EndNotOne,
 }
 
-/// A capacity table: the capacity of a node by its distance from the root. It has 1 to 16 entries, each 1 to 2,000,
-/// none greater than the one before, and the last 1. Contracts see the list of its entries.
+/// A capacity table: how many levels a site has, [`FEWEST_LEVELS`] to [`MOST_LEVELS`], and the capacity of a node by its distance from
+/// the root. Contracts see the number and the list of entries.
 #[derive(Clone, Copy, Debug, PartialEq, Eq)]
 pub struct Caps {
-    entries: [u32; MOST_ENTRIES],
-    len: usize,
+    levels: u32,
+    entries: Entries,
 }
 
 impl Model for Caps {
-    ghost use Rattle.std.specs.Prelude.{ℕ, List, length, take};
-    ghost use Rattle.std.proofs.Common.{sym};
+    ghost use Rattle.trust_types.specs.Tables.{Table, IsLevelCount};
 
-    ghost Value = { List ℕ };
+    ghost Value = { Table };
 
-    ghost use Rattle.trust_types.specs.inner.Padded.{IsPadded, padded};
-    ghost use Rattle.trust_types.specs.Tables.{IsTable};
+    ghost view = { λ caps. record { levels = caps.levels; entries = caps.entries } };
 
-    ghost view = { λ a. take a.len a.entries };
+    ghost invariant = { λ caps. IsLevelCount caps.levels };
 
-    ghost invariant = { λ a. IsTable (take a.len a.entries) × IsPadded 16 a.entries a.len };
-
-    ghost inverse = { λ table. record { entries = padded 16 table; len = length table } };
-
-    ghost inverse_ok = { λ a h i. record { entries = sym h.1.rest i; len = h.1.long i } };
-}
-
-/// Whether an entry is above the greatest that a table may have.
-fn exceeds(entries: &[u32]) -> bool
-    ensures { result ≡ list_any (λ entry. nat_lt 2000 entry) entries.now }
-{
-    entries.iter().any(|entry| GREATEST_ENTRY < *entry)
-}
-
-/// Whether an entry is above the one before.
-fn rises(entries: &[u32]) -> bool
-    ensures { result ≡ rises entries.now }
-{
-    entries
-        .iter()
-        .zip(entries.iter().skip(1))
-        .any(|(before, after)| before < after)
+    ghost inverse = { λ table. record { levels = table.levels; entries = table.entries } };
 }
 
 impl Caps {
-    /// The table that the entries are.
+    /// The table of four levels that the entries are.
     ///
     /// # Errors
     /// The first fault that they have, in the order of [`CapsFault`].
-    #[tactic(auto, using(crate::proofs::TableTests::table_tests))]
     pub fn read(entries: &[u32]) -> Result<Caps, CapsFault>
-        ensures judged { result ≡ table entries.now }
-        ensures accepted { IsOk result ↔ IsTable entries.now }
+        ensures judged { result ≡ judged_table 4 entries.now }
+        ensures accepted { IsOk result ↔ AreEntries entries.now }
     {
-        let Some(last) = entries.last() else {
-            return Err(CapsFault::Empty);
-        };
-        if entries.len() > MOST_ENTRIES {
-            return Err(CapsFault::Long);
-        }
-        if entries.contains(&0) {
-            return Err(CapsFault::Zero);
-        }
-        if exceeds(entries) {
-            return Err(CapsFault::Large);
-        }
-        if rises(entries) {
-            return Err(CapsFault::Rises);
-        }
-        if *last != 1 {
-            return Err(CapsFault::EndNotOne);
-        }
-        Ok(Caps::keep(entries))
+        Caps::with_levels(4, entries)
     }
 
-    fn keep(table: &[u32]) -> Caps
-        requires { IsTable table.now }
-        ensures { result ≡ table.now }
+    /// The table of so many levels that the entries are.
+    ///
+    /// # Errors
+    /// The first fault that there is, in the order of [`CapsFault`]: [`CapsFault::Levels`] exactly where there aren't
+    /// [`FEWEST_LEVELS`] to [`MOST_LEVELS`] levels, and then those of the entries.
+    pub fn with_levels(levels: u32, entries: &[u32]) -> Result<Caps, CapsFault>
+        ensures judged { result ≡ judged_table levels entries.now }
+        ensures accepted { IsOk result ↔ (IsLevelCount levels × AreEntries entries.now) }
     {
-        let mut entries = [0; MOST_ENTRIES];
-        entries[..table.len()].copy_from_slice(table);
-        Caps {
-            entries,
-            len: table.len(),
+        if levels < FEWEST_LEVELS || MOST_LEVELS < levels {
+            return Err(CapsFault::Levels);
+        }
+        match Entries::read(entries) {
+            Ok(entries) => Ok(Caps::of(levels, entries)),
+            Err(fault) => Err(fault),
         }
     }
 
-    /// The table that a site has unless it is told another: 800, 200, 50, 12, 4, 2 and 1.
+    /// The table of so many levels with these entries.
+    pub fn of(levels: u32, entries: Entries) -> Caps
+        requires { IsLevelCount levels }
+        ensures { result ≡ table_with levels entries }
+    {
+        Caps { levels, entries }
+    }
+
+    /// The table that a site has unless it is told another: four levels, and 800, 200, 50, 12, 4, 2 and 1.
     pub fn standard() -> Caps
         ensures { result ≡ standard_table }
     {
-        Caps::keep(&[800, 200, 50, 12, 4, 2, 1])
+        Caps {
+            levels: 4,
+            entries: Entries::standard(),
+        }
+    }
+
+    /// How many levels there are.
+    pub fn levels(&self) -> u32
+        ensures value { result ≡ self.now.levels }
+        ensures within { IsLevelCount result }
+    {
+        self.levels
+    }
+
+    /// Whether the level is one of the table's: those are the first ones of the order.
+    pub fn has(&self, level: Level) -> bool
+        ensures { result ≡ has_level self.now level }
+    {
+        level.rank() < self.levels
     }
 
     /// The capacity of a node at a distance from the root: the entry there, or the last one past the end.
     pub fn at(&self, distance: u32) -> u32
         ensures entry { result ≡ entry self.now distance }
         ensures least { 1 ≤ result }
-        ensures most { result ≤ 2000 }
+        ensures most { result ≤ GREATEST_ENTRY }
         ensures table { IsTable self.now }
     {
-        let place = (self.len - 1).min(distance as usize);
-        self.entries[place]
+        self.entries.at(distance)
     }
 
     /// Its entries, of which the first is the root's.
     pub fn entries(&self) -> &[u32]
-        ensures all { result.now ≡ self.now }
+        ensures all { result.now ≡ self.now.entries }
         ensures table { IsTable self.now }
     {
-        &self.entries[..self.len]
+        self.entries.as_slice()
     }
 }

@@ -1,9 +1,16 @@
 -- For the functions that write: what is written of a graph, in order, and the lines that it gives.
-use Rattle.std.specs.Prelude.{ℕ, List, map, filter, flat_map}
+use Rattle.std.specs.Prelude.{ℕ, List, [], ◌∷◌, codes, decimal, map, filter, flat_map}
 use Rattle.std.specs.List.{range_with_len}
 use Rattle.trust_types.specs.declared.graphs.Cert.{Cert}
 use Rattle.trust_types.specs.Graph.{Certificates}
 use Rattle.audit_text.specs.Canonical.{line}
+
+-- The words of the line of a table's entries, and of that of a number of levels.
+abbrev pub entries_words : List ℕ → List (List ℕ)
+entries_words entries = codes "caps" ∷ map decimal entries
+
+abbrev pub count_words : ℕ → List (List ℕ)
+count_words levels = codes "levels" ∷ decimal levels ∷ []
 
 -- The numbers below a bound.
 abbrev pub below : ℕ → List ℕ

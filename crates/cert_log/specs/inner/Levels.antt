@@ -4,7 +4,7 @@ use Rattle.trust_types.specs.declared.levels.Level.{Level}
 use Rattle.trust_types.specs.declared.graphs.Cert.{Cert}
 use Rattle.trust_types.specs.declared.limits.TheConstants.{MOST_CERTS}
 use Rattle.trust_types.specs.Levels.{is_grade}
-use Rattle.trust_types.specs.Kept.{standing_among, standing_count}
+use Rattle.trust_types.specs.Changes.{standing_among, standing_count}
 use Rattle.pair_map.specs.Pairs.{Pairs, value_at}
 use Rattle.cert_log.specs.declared.logs.Kept.{Kept}
 use Rattle.cert_log.specs.declared.logs.Kept.TheVariants.{Lines, Levels}

@@ -3,7 +3,7 @@ use Rattle.std.specs.Prelude.{ℕ, Bool, false, List, [], ◌∷◌, if◌then�
 use Rattle.std.specs.Ordering.{nat_cmp, is_lt, ordering_then}
 use Rattle.std.specs.List.Sorted.{IsSortedBy}
 use Rattle.trust_types.specs.declared.graphs.Cert.{Cert}
-use Rattle.trust_types.specs.Kept.{is_of_pair, stands}
+use Rattle.trust_types.specs.Changes.{is_of_pair, stands}
 
 abbrev pub pair_lt : Cert → Cert → Bool
 pair_lt c d = is_lt (ordering_then (nat_cmp c.from d.from) (nat_cmp c.to d.to))

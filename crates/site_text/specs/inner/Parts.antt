@@ -1,12 +1,23 @@
 -- For the reader's own functions: what they read of a text.
-use Rattle.std.specs.Prelude.{ℕ, Bool, ◌≡◌, ◌+◌, ◌&&◌, List, [], ◌∷◌, Option, Some, None}
+use Rattle.std.specs.Prelude.{ℕ, Bool, ◌≡◌, ◌+◌, ◌&&◌, if◌then◌else◌, List, [], ◌∷◌, Option, Some, None}
 use Rattle.trust_types.specs.declared.levels.Level.{Level}
 use Rattle.trust_types.specs.declared.records.Record.{Record}
+use Rattle.site_lines.specs.Site.{is_levels_line}
 use Rattle.site_lines.specs.Drafts.{IsSiteDraft}
 use Rattle.claim_lines.specs.Claim.{Claim, is_level_line}
 use Rattle.claim_lines.specs.Drafts.{IsClaimDraft}
 use Rattle.site_text.specs.declared.reading.SitePart.{SitePart}
 use Rattle.site_text.specs.declared.reading.Claimed.{Claimed}
+
+-- How many of the lines behind a text's first say how many levels there are.
+abbrev pub levels_count : List (List ℕ) → ℕ
+levels_count [] = 0
+levels_count (second ∷ others) = if is_levels_line second then 1 else 0
+
+-- The lines behind that one, where there is one.
+abbrev pub behind_levels : List (List ℕ) → List (List ℕ)
+behind_levels [] = []
+behind_levels (second ∷ others) = if is_levels_line second then others else second ∷ others
 
 -- Whether a line ends the site: in a proof text a `level` line does.
 abbrev pub ends_site : Bool → List ℕ → Bool

@@ -26,15 +26,15 @@ told c = record {
 
 parts : (c : goal.In_ok-put_nodes-2) → Parts c.args.frozen.now c.args.roster.now.level (lists_of c.args.roster.now) c.put_nodes-2.new.text.items
 parts c =
-    parts_of c.args.frozen.now c.args.roster.now.level (lists_of c.args.roster.now) c.entries.result.now c.names-names.result.now c.deref.result.now c.deref-2.result.now c.deref-3.result.now
-    c.in_ok-text.text.items c.put_caps.new.text.items c.put_accounts.new.text.items c.put_seeds.new.text.items c.put_certs.new.text.items c.put_level.new.text.items
-    c.put_flow.new.text.items c.put_nodes.new.text.items c.put_nodes-2.new.text.items
-    (c.entries.ensures.all ∙ c.caps.ensures) c.names-names.ensures.all c.deref.ensures.value c.deref-2.ensures.value c.deref-3.ensures.value c.in_ok-text.ensures.items
-    c.in_ok-put_caps.ensures c.in_ok-put_accounts.ensures.written c.in_ok-put_seeds.ensures c.in_ok-put_certs.ensures c.in_ok-put_level.ensures c.in_ok-put_flow.ensures.written
-    c.in_ok-put_nodes.ensures c.in_ok-put_nodes-2.ensures
+    parts_of c.args.frozen.now c.args.roster.now.level (lists_of c.args.roster.now) c.caps.result.now c.entries.result.now c.names-names.result.now c.deref.result.now c.deref-2.result.now
+    c.deref-3.result.now c.in_ok-text.text.items c.put_caps.new.text.items c.put_levels.new.text.items c.put_accounts.new.text.items c.put_seeds.new.text.items c.put_certs.new.text.items
+    c.put_level.new.text.items c.put_flow.new.text.items c.put_nodes.new.text.items c.put_nodes-2.new.text.items
+    c.caps.ensures c.entries.ensures.all c.names-names.ensures.all c.deref.ensures.value c.deref-2.ensures.value c.deref-3.ensures.value c.in_ok-text.ensures.items
+    c.in_ok-put_caps.ensures c.in_ok-put_levels.ensures c.in_ok-put_accounts.ensures.written c.in_ok-put_seeds.ensures c.in_ok-put_certs.ensures c.in_ok-put_level.ensures
+    c.in_ok-put_flow.ensures.written c.in_ok-put_nodes.ensures c.in_ok-put_nodes-2.ensures
 
 pub returns-clause-canonical : goal.returns-clause-canonical
 returns-clause-canonical c = canonical c.args.frozen.now c.args.roster.now.level (lists_of c.args.roster.now) c.put_nodes-2.new.text.items (told c) (parts c)
 
 pub returns-clause-readable : goal.returns-clause-readable
-returns-clause-readable c = readable c.args.frozen.now c.args.roster.now.level (lists_of c.args.roster.now) c.put_nodes-2.new.text.items (told c) (parts c)
+returns-clause-readable c = λ keeps has. readable c.args.frozen.now c.args.roster.now.level (lists_of c.args.roster.now) c.put_nodes-2.new.text.items (told c) (parts c) keeps has

@@ -25,7 +25,7 @@ loop-start-preserved g c =
       depth = loop.invariant.depth + 1;
       some = omega arith;
       counted = counted;
-      layered = layer_after loop.invariant.layered (omega (arith, at.table.few)) loop.invariant.some c.expand_layer.ensures.reached (omega (arith, loop.queue.ok.0)) counted at.entry;
+      layered = layer_after loop.invariant.layered (omega (arith, at.table.entries.few)) loop.invariant.some c.expand_layer.ensures.reached (omega (arith, loop.queue.ok.0)) counted at.entry;
       room = c.expand_layer.ensures.room;
       reserved = c.expand_layer.ensures.reserved ∙ loop.invariant.reserved;
     }

@@ -22,7 +22,7 @@ unfolding claim_of
 returns-in_err-level-clause-read c =
     let n : ℕ = c.args.text.now.number in
     let line : List ℕ = c.in-Some.level_line.now in
-    rw c.in-Some.is (refused_text (IsClaimed (length c.args.names.now)) fault_of c.from_residual.result (at_line n (level_line line)) (with_level c.args.names.now n (lines c.args.text.now.bytes))
+    rw c.in-Some.is (refused_text (IsClaimed (length c.args.names.now)) fault_of c.from_residual.result (at_line n (level_line c.args.table.now line)) (with_level c.args.names.now n (lines c.args.text.now.bytes))
     (Text c.in_err-level.field-0.0) c.from_residual.ensures.1 ((λ i. at_line (sym c.number-2.ensures.value i) (sym c.read_level.ensures.level i)) ∙ sym c.in_err-level.ensures))
 
 pub returns-in_err-draft-clause-read : goal.returns-in_err-draft-clause-read
@@ -32,7 +32,7 @@ returns-in_err-draft-clause-read c =
     let line : List ℕ = c.in-Some.level_line.now in
     let others : List (List ℕ) = lines c.args.text.now.bytes in
     let names : List (List ℕ) = c.args.names.now in
-    rw c.in-Some.is (passed_text (IsClaimed (length names)) fault_of c.from_residual-in_err-draft.result (at_line n (level_line line)) (with_level names n others) c.in_ok-level.level
+    rw c.in-Some.is (passed_text (IsClaimed (length names)) fault_of c.from_residual-in_err-draft.result (at_line n (level_line c.args.table.now line)) (with_level names n others) c.in_ok-level.level
     ((λ i. at_line (sym c.number-2.ensures.value i) (sym c.read_level.ensures.level i)) ∙ sym c.in_ok-level.ensures)
     (refused_text (IsClaimed (length names)) fault_of c.from_residual-in_err-draft.result (reading (claim_line names) (n + 1) nothing others) (with_claim n others c.in_ok-level.level)
     c.in_err-draft.field-0.0 c.from_residual-in_err-draft.ensures.1 c.in_err-draft.ensures.read))
@@ -49,7 +49,7 @@ returns-in_err-at_line-clause-read c =
     let claim : Claim = read.0 in
     let number : n + 1 + length others ≡ c.number-3.result + 1 = omega (arith, c.number-3.ensures.value, c.in_ok-draft.ensures.number) in
     let has : has_root claim ≡ c.has_root.result = sym (c.has_root.ensures _ claim read.2) in
-    rw c.in-Some.is (passed_text (IsClaimed (length names)) fault_of c.from_residual-in_err-at_line.result (at_line n (level_line line)) (with_level names n others) level
+    rw c.in-Some.is (passed_text (IsClaimed (length names)) fault_of c.from_residual-in_err-at_line.result (at_line n (level_line c.args.table.now line)) (with_level names n others) level
     ((λ i. at_line (sym c.number-2.ensures.value i) (sym c.read_level.ensures.level i)) ∙ sym c.in_ok-level.ensures)
     (passed_text (IsClaimed (length names)) fault_of c.from_residual-in_err-at_line.result (reading (claim_line names) (n + 1) nothing others) (with_claim n others level) claim read.1
     (refused_text (IsClaimed (length names)) fault_of c.from_residual-in_err-at_line.result (at_line (n + 1 + length others) (fault_unless (has_root claim) MissingRoot)) (λ _. Ok (level, claim))

@@ -17,7 +17,7 @@ returns-then-ends_site-clause-read c =
     let p : List ℕ → Bool = ends_site c.args.in_proof in
     let others : List (List ℕ) = lines c.next_line.new.self.bytes in
     let none : before_first p (lines c.loop-line.text.bytes) ≡ [] = ap (before_first p) c.in-Some.ensures.line ∙ before-found p c.in-Some.line.now others (sym c.if-ends_site.ensures) in
-    (k, sym inv.2 ∙ reading-end site_line (c.loop-line.text.number + 1) k _ none, inv.1)
+    (k, sym inv.2 ∙ reading-end (site_line c.args.table.now) (c.loop-line.text.number + 1) k _ none, inv.1)
 
 pub returns-then-ends_site-clause-left : goal.returns-then-ends_site-clause-left
 returns-then-ends_site-clause-left c =
@@ -40,9 +40,9 @@ loop-line-preserved c =
       so_far = (
         said.0,
         said.2,
-        ap (λ m. reading site_line (m + 1) said.0 (before_first p others)) c.in-Some.ensures.number
-            ∙ sym (reading-more site_line n k line (before_first p others) said.0 said.1)
-            ∙ ap (reading site_line n k) (sym part) ∙ inv.2,
+        ap (λ m. reading (site_line c.args.table.now) (m + 1) said.0 (before_first p others)) c.in-Some.ensures.number
+            ∙ sym (reading-more (site_line c.args.table.now) n k line (before_first p others) said.0 said.1)
+            ∙ ap (reading (site_line c.args.table.now) n k) (sym part) ∙ inv.2,
       );
       left = sym (from-more p line others other) ∙ ap (from_first p) (sym c.in-Some.ensures.line) ∙ c.loop-line.invariant.left;
       number = omega (arith, c.in-Some.ensures.number, long, c.loop-line.invariant.number);
@@ -57,11 +57,11 @@ returns-in-Err-clause-read c =
     let p : List ℕ → Bool = ends_site c.args.in_proof in
     let others : List (List ℕ) = lines c.next_line.new.self.bytes in
     let part : before_first p (lines c.loop-line.text.bytes) ≡ line ∷ before_first p others = ap (before_first p) c.in-Some.ensures.line ∙ before-more p line others (sym c.if-ends_site.ensures) in
-    reading-refused site_line IsSiteDraft fault_of n k line (before_first p others) _ c.read.new.self c.in-Err.fault c.at_line.result
-    (ap (reading site_line n k) (sym part) ∙ inv.2) (c.in-Err.ensures k inv.1)
+    reading-refused (site_line c.args.table.now) IsSiteDraft fault_of n k line (before_first p others) _ c.read.new.self c.in-Err.fault c.at_line.result
+    (ap (reading (site_line c.args.table.now) n k) (sym part) ∙ inv.2) (c.in-Err.ensures k inv.1)
     (c.at_line.ensures ∙ ap (λ m. fault_at m c.in-Err.fault) (c.number.ensures.value ∙ c.in-Some.ensures.number))
 
 pub returns-clause-read : goal.returns-clause-read
 returns-clause-read c =
     let inv = c.loop-line.invariant.so_far in
-    (inv.0, sym inv.2 ∙ reading-end site_line (c.loop-line.text.number + 1) inv.0 _ (ap (before_first (ends_site c.args.in_proof)) c.in_default.ensures.line), inv.1)
+    (inv.0, sym inv.2 ∙ reading-end (site_line c.args.table.now) (c.loop-line.text.number + 1) inv.0 _ (ap (before_first (ends_site c.args.in_proof)) c.in_default.ensures.line), inv.1)

@@ -11,9 +11,9 @@ use Rattle.site_text.proofs.reading.read_site_part.Given as goal
 
 abbrev pub invariant-loop-line : goal.invariant-loop-line
 invariant-loop-line l = record {
-  so_far : (k : List Record) × IsSiteDraft l.draft k × (reading site_line (l.text.number + 1) k (before_first (ends_site l.in_proof) (lines l.text.bytes)) ≡ reading site_line 2 [] (before_first (ends_site l.in_proof) (lines l.initial.text.bytes)));
+  so_far : (k : List Record) × IsSiteDraft l.draft k × (reading (site_line l.table) (l.text.number + 1) k (before_first (ends_site l.in_proof) (lines l.text.bytes)) ≡ reading (site_line l.table) (l.initial.text.number + 1) [] (before_first (ends_site l.in_proof) (lines l.initial.text.bytes)));
   left : from_first (ends_site l.in_proof) (lines l.text.bytes) ≡ from_first (ends_site l.in_proof) (lines l.initial.text.bytes);
-  number : l.text.number + length (before_first (ends_site l.in_proof) (lines l.text.bytes)) ≡ length (before_first (ends_site l.in_proof) (lines l.initial.text.bytes)) + 1;
+  number : l.text.number + length (before_first (ends_site l.in_proof) (lines l.text.bytes)) ≡ l.initial.text.number + length (before_first (ends_site l.in_proof) (lines l.initial.text.bytes));
 }
 
 abbrev pub decreases-loop-line : goal.decreases-loop-line

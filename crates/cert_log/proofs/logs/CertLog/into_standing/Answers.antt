@@ -2,7 +2,7 @@ use Rattle.std.proofs.Common.{◌∙◌, ap, subst, List, length, ℕ}
 use Rattle.trust_types.specs.declared.graphs.Cert.{Cert}
 use Rattle.cert_log.specs.declared.logs.Kept.{Kept}
 use Rattle.cert_log.specs.inner.Levels.{Keeps}
-use Rattle.trust_types.specs.Kept.{standing_among}
+use Rattle.trust_types.specs.Changes.{standing_among}
 use Rattle.trust_types.specs.declared.levels.Level.{Level}
 use Rattle.cert_log.proofs.Standing.{standing_sorted}
 use Rattle.cert_log.proofs.logs.CertLog.into_standing.Goals as goal

@@ -1,7 +1,7 @@
 use Rattle.std.proofs.Common.{◌∷◌, [], ◌++◌, ap, sym, ◌∙◌, take}
 use Rattle.site_lines.specs.Site.{numbers}
 use Rattle.site_lines.proofs.Entering.{after, after-first, after-more, take-twice}
-use Rattle.site_lines.proofs.entries.Entries.read.Goals as goal
+use Rattle.site_lines.proofs.entries.FirstEntries.read.Goals as goal
 
 pub loop-word-init : goal.loop-word-init
 loop-word-init c = (

@@ -1,7 +1,7 @@
 use Rattle.std.proofs.Common.{◌≡◌, ◌∙◌, ap, length, arith, sym}
 use Rattle.std.proofs.lemmas.List.{length-take-le}
 use Rattle.site_lines.proofs.Entering.{take-full}
-use Rattle.site_lines.proofs.entries.Entries.add.Goals as goal
+use Rattle.site_lines.proofs.entries.FirstEntries.add.Goals as goal
 
 pub returns-else-self-lt-ROOM : goal.returns-else-self-lt-ROOM
 returns-else-self-lt-ROOM c =
