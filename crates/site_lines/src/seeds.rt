@@ -22,7 +22,7 @@ pub fn mark(flags: &mut Vec<bool>, account: AccountNo) -> bool
 
 /// The accounts whose flag is set, in rising order.
 pub fn marked(alloc: Global, flags: &[bool]) -> Result<Vec<AccountNo>, AllocError>
-    requires { length flags.now ≤ 100000 }
+    requires { length flags.now ≤ MOST_ACCOUNTS }
     ensures rises { IfOk result (λ accounts. IsStrictlyIncreasing accounts.items) }
     ensures just { IfOk result (λ accounts. (a : ℕ) → Contains accounts.items a ↔ IsTrue (flag flags.now a)) }
 {
