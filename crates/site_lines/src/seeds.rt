@@ -5,7 +5,7 @@ ghost use Rattle.std.specs.List.Sorted.{IsStrictlyIncreasing};
 ghost use Rattle.site_lines.specs.Drafts.{flag};
 
 use std::alloc::{AllocError, Global};
-use trust_types::AccountNo;
+use trust_types::{AccountNo, MOST_ACCOUNTS};
 
 /// Sets an account's flag, and answers what it was. Past the end there is none.
 pub fn mark(flags: &mut Vec<bool>, account: AccountNo) -> bool
