@@ -1,5 +1,5 @@
 -- Live sessions: which tokens are logged in, and who under each.
-use Rattle.std.specs.Prelude.{ℕ, Unit, Bool, List, Option, Result, Ok, Err, ◌×◌, is_some, nat_lt, length, if◌then◌else◌}
+use Rattle.std.specs.Prelude.{ℕ, List, Option, Result, Ok, Err, is_some, nat_lt, length, if◌then◌else◌}
 use Rattle.std.specs.Str.{bytes_eq}
 use Rattle.std.specs.Map.{lookup, remove_entry}
 use Rattle.trust_types.specs.declared.records.Secret.{Secret}
