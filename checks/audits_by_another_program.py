@@ -3,7 +3,7 @@
 
     checks/audits_by_another_program.py
 
-For the community of `examples/`, the same under attack, and graphs drawn at random, at each grade: both programs call the audit the
+For the community of `examples/`, the same under attack, and graphs drawn at random, with two to seven levels, at each grade: both programs call the audit the
 greatest flow of as many accounts as the roster has. Then one line of the audit is changed or left out, and both refuse it or both
 accept it. It ends with status 1 where they differ. It runs after the program was built, and proves nothing.
 """
@@ -13,7 +13,7 @@ import sys
 from pathlib import Path
 
 TOP = Path(__file__).resolve().parent.parent
-GRADES = ("Apprentice", "Journeyer", "Master")
+GRADES = ("Apprentice", "Journeyer", "Master", "Fellow", "Warden", "Elder")
 GRAPHS, CHANGES = 10, 10
 
 
@@ -31,15 +31,23 @@ def by_hand(text):
     return run([sys.executable, "examples/check_proof.py"], text)
 
 
+def grades_of(site):
+    """The grades of a site text's table."""
+    word, *rest = site.splitlines()[1].split()
+    return GRADES[: int(rest[0]) - 1 if word == "levels" else 3]
+
+
 def drawn(dice):
-    """A site text with accounts, seeds and certificates drawn at random."""
+    """A site text with levels, accounts, seeds and certificates drawn at random."""
+    levels = dice.randint(2, 7)
     names = [f"a{number}" for number in range(dice.randint(2, 30))]
     lines = ["caps " + " ".join(map(str, sorted((dice.randint(1, 9) for _ in range(dice.randint(1, 5))), reverse=True))) + " 1"]
+    lines += [f"levels {levels}"] if levels != 4 else []
     lines += [f"account {name}" for name in names]
     lines += [f"seed {name}" for name in dice.sample(names, dice.randint(1, 2))]
     for _ in range(dice.randint(1, 90)):
         giver, taker = dice.sample(names, 2)
-        lines.append(f"cert {giver} {taker} {dice.choice(('Observer', *GRADES))}")
+        lines.append(f"cert {giver} {taker} {dice.choice(('Observer', *GRADES[: levels - 1]))}")
     return "\n".join(lines) + "\n"
 
 
@@ -62,7 +70,7 @@ def main():
     sites += [drawn(dice) for _ in range(GRAPHS)]
     audits = changes = refused = 0
     for site in sites:
-        for grade in GRADES:
+        for grade in grades_of(site):
             count = virgule(site, "rosters", grade)[0].split()[1]
             audit, status = virgule(site, "audit", grade)
             answers = (status, *virgule(audit, "check"), *by_hand(audit))
