@@ -1,7 +1,7 @@
 -- The entries of a table.
-use Rattle.std.proofs.Common.{append_assoc, length-append, cond, true, false, nat_lt, Ok, Err, ◌≡◌, ℕ, ◌+◌, ◌<◌, ◌≤◌, Bool, List, [], ◌∷◌, ◌++◌, length, take, drop, map, refl, sym, ap, ◌∙◌, arith, rules, decimal, ◌==◌}
+use Rattle.std.proofs.Common.{append_assoc, length-append, cond, true, false, nat_lt, Ok, Err, ◌≡◌, ℕ, ◌+◌, ◌<◌, Bool, List, [], ◌∷◌, ◌++◌, length, take, drop, map, refl, sym, ap, ◌∙◌, arith, decimal, ◌==◌}
 use Rattle.std.specs.List.{join_with_byte, flat_map, slice_split, position_or_len}
-use Rattle.std.proofs.lemmas.List.{append-nil, take_rest}
+use Rattle.std.proofs.lemmas.List.{append-nil}
 use Rattle.std.proofs.lemmas.List.Sums.{fails_before_first}
 use Rattle.std.proofs.lemmas.List.Splits.{slice_split_none, slice_split_first}
 use Rattle.std.proofs.Math.Seq.{take-length}

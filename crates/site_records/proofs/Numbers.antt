@@ -1,5 +1,5 @@
 -- A number and the value that is its decimal text.
-use Rattle.std.proofs.Common.{◌≡◌, ℕ, ◌<◌, ◌≤◌, ◌^◌, Bool, true, false, ◌&&◌, nat_le, cond, List, Option, Some, None, Ok, Err, refl, sym, ap, ◌∙◌, arith, rules, decimal}
+use Rattle.std.proofs.Common.{◌≡◌, ℕ, ◌<◌, ◌≤◌, ◌^◌, Bool, true, false, ◌&&◌, nat_le, List, Option, Some, None, Ok, Err, refl, sym, ap, arith, rules, decimal}
 use Rattle.std.specs.Char.{is_ascii_digit}
 use Rattle.std.specs.List.{list_all}
 use Rattle.std.specs.Str.{bytes_eq}

@@ -1,5 +1,5 @@
 -- The fields of a row, one behind another.
-use Rattle.std.proofs.Common.{◌≡◌, ◌≢◌, ℕ, suc, ◌+◌, ◌<◌, Bool, true, false, cond, List, [], ◌∷◌, ◌++◌, length, take, drop, Ok, Err, All, refl, sym, ap, ◌∙◌, arith, append_assoc, append-nil, length-append, take-append-drop, one-add, codes, ◌==◌, inl, inr, ⊎_elim}
+use Rattle.std.proofs.Common.{◌≡◌, ◌≢◌, ℕ, ◌<◌, true, List, [], ◌∷◌, ◌++◌, length, take, drop, Ok, All, refl, sym, ap, ◌∙◌, arith, append_assoc, append-nil, length-append, take-append-drop, one-add, ◌==◌, inl, inr, ⊎_elim}
 use Rattle.std.specs.Prelude.{◌⊎◌}
 use Rattle.std.specs.List.{position_or_len}
 use Rattle.std.specs.Str.{bytes_eq}
@@ -12,7 +12,7 @@ use Rattle.form_urlencoded.proofs.FormLemmas.{IsSerializedByte, All-byte_seriali
 use Rattle.trust_types.specs.declared.records.Record.{Record}
 use Rattle.site_records.specs.Rows.{Pair}
 use Rattle.site_records.specs.inner.Reading.{Read, ◌>>=◌, behind_key, value_at, at_end, one_value, two_values, three_values, one_read, two_read, three_read}
-use Rattle.site_records.proofs.Steps.{given, if-ok, bind-ok, ok_same}
+use Rattle.site_records.proofs.Steps.{if-ok, bind-ok, ok_same}
 use Rattle.site_records.proofs.Values.{front}
 
 -- The pairs behind the first, each with its `&`.
@@ -115,8 +115,14 @@ pub three-back : (A B C : Type 0) (n₁ k₁ n₂ k₂ n₃ k₃ : List ℕ) (r�
     (record_of : A → B → C → Record) (a : A) (b : B) (c : C) → IsKey n₁ k₁ → IsKey n₂ k₂ → IsKey n₃ k₃ → Reads A r₁ t₁ P₁ → Reads B r₂ t₂ P₂ → Reads C r₃ t₃ P₃ →
     P₁ a → P₂ b → P₃ c → three_read k₁ k₂ k₃ r₁ r₂ r₃ record_of (fields ((n₁, t₁ a) ∷ (n₂, t₂ b) ∷ (n₃, t₃ c) ∷ [])) ≡ Ok (record_of a b c)
 three-back A B C n₁ k₁ n₂ k₂ n₃ k₃ r₁ r₂ r₃ t₁ t₂ t₃ P₁ P₂ P₃ record_of a b c is₁ is₂ is₃ reads₁ reads₂ reads₃ p₁ p₂ p₃ =
-    rw (at_field n₁ k₁ (t₁ a) ((n₂, t₂ b) ∷ (n₃, t₃ c) ∷ []) is₁, at_field n₂ k₂ (t₂ b) ((n₃, t₃ c) ∷ []) is₂, at_field n₃ k₃ (t₃ c) [] is₃,
-    reads₁.back a p₁, reads₂.back b p₂, reads₃.back c p₃) refl
+    rw (
+      at_field n₁ k₁ (t₁ a) ((n₂, t₂ b) ∷ (n₃, t₃ c) ∷ []) is₁,
+      at_field n₂ k₂ (t₂ b) ((n₃, t₃ c) ∷ []) is₂,
+      at_field n₃ k₃ (t₃ c) [] is₃,
+      reads₁.back a p₁,
+      reads₂.back b p₂,
+      reads₃.back c p₃,
+    ) refl
 
 at_end-ok : (rest : List ℕ) (u : Unit {0}) → at_end rest ≡ Ok u → rest ≡ []
 at_end-ok [] u e = refl
@@ -176,7 +182,7 @@ two-only A B n₁ k₁ n₂ k₂ r₁ r₂ t₁ t₂ P₁ P₂ record_of row x i
       told₂.1,
       ok_same _ _ second.2,
       two_values-ok k₁ k₂ row values.0 values.1 ∙ (λ i. k₁ ++ (told₁.0 i ++ (k₂ ++ (told₂.0 i ++ []))))
-      ∙ sym (field_key n₁ k₁ (t₁ first.0) ((n₂, t₂ second.0) ∷ []) is₁ ∙ ap (λ rest. k₁ ++ (byte_serialize (t₁ first.0) ++ rest)) (field_key n₂ k₂ (t₂ second.0) [] is₂)),
+          ∙ sym (field_key n₁ k₁ (t₁ first.0) ((n₂, t₂ second.0) ∷ []) is₁ ∙ ap (λ rest. k₁ ++ (byte_serialize (t₁ first.0) ++ rest)) (field_key n₂ k₂ (t₂ second.0) [] is₂)),
     )
 
 pub three-only : (A B C : Type 0) (n₁ k₁ n₂ k₂ n₃ k₃ : List ℕ) (r₁ : List ℕ → Read A) (r₂ : List ℕ → Read B) (r₃ : List ℕ → Read C)
@@ -200,7 +206,7 @@ three-only A B C n₁ k₁ n₂ k₂ n₃ k₃ r₁ r₂ r₃ t₁ t₂ t₃ P�
       told₃.1,
       ok_same _ _ third.2,
       three_values-ok k₁ k₂ k₃ row values.0 values.1 ∙ (λ i. k₁ ++ (told₁.0 i ++ (k₂ ++ (told₂.0 i ++ (k₃ ++ (told₃.0 i ++ []))))))
-      ∙ sym (field_key n₁ k₁ (t₁ first.0) ((n₂, t₂ second.0) ∷ (n₃, t₃ third.0) ∷ []) is₁
-      ∙ ap (λ rest. k₁ ++ (byte_serialize (t₁ first.0) ++ rest)) (field_key n₂ k₂ (t₂ second.0) ((n₃, t₃ third.0) ∷ []) is₂
-      ∙ ap (λ rest. k₂ ++ (byte_serialize (t₂ second.0) ++ rest)) (field_key n₃ k₃ (t₃ third.0) [] is₃))),
+          ∙ sym (field_key n₁ k₁ (t₁ first.0) ((n₂, t₂ second.0) ∷ (n₃, t₃ third.0) ∷ []) is₁
+          ∙ ap (λ rest. k₁ ++ (byte_serialize (t₁ first.0) ++ rest)) (field_key n₂ k₂ (t₂ second.0) ((n₃, t₃ third.0) ∷ []) is₂
+          ∙ ap (λ rest. k₂ ++ (byte_serialize (t₂ second.0) ++ rest)) (field_key n₃ k₃ (t₃ third.0) [] is₃))),
     )

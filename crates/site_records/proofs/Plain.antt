@@ -1,11 +1,10 @@
 -- Values of letters and digits stand for themselves, and are read as what they stand for.
-use Rattle.std.proofs.Common.{◌≡◌, ℕ, suc, ◌+◌, ◌*◌, ◌/◌, ◌%◌, ◌<◌, ◌≤◌, ◌^◌, Bool, true, false, ◌&&◌, ◌||◌, nat_le, nat_lt, cond, List, [], ◌∷◌, ◌++◌, length, take, drop, slice_index, get_or, map, Ok, Err, Some, None, All, refl, sym, ap, ◌∙◌, arith, rules, codes, decimal, ◌==◌, subst, length-append}
+use Rattle.std.proofs.Common.{◌≡◌, ℕ, suc, ◌*◌, ◌/◌, ◌%◌, ◌<◌, ◌≤◌, ◌^◌, Bool, true, false, cond, List, [], ◌∷◌, ◌++◌, length, slice_index, Ok, Err, Some, None, refl, sym, ap, ◌∙◌, arith, decimal, ◌==◌, subst}
 use Rattle.std.specs.Prelude.{IsUtf8}
 use Rattle.std.specs.Option.{ok_or}
 use Rattle.std.specs.Char.{is_ascii_digit}
-use Rattle.std.specs.List.{find, list_all, join_with_byte, slice_split}
+use Rattle.std.specs.List.{find, list_all}
 use Rattle.std.specs.Str.{bytes_eq}
-use Rattle.std.specs.Str.Parse.{digits_value}
 use Rattle.std.proofs.lemmas.Bool.{and_parts, cond-true, cond-false}
 use Rattle.std.proofs.lemmas.List.Sums.{AllPass-from_list_all}
 use Rattle.std.specs.Prelude.{Option, Result}
@@ -14,22 +13,22 @@ use Rattle.std.proofs.lemmas.Bool.Decides.{nat_tests}
 use Rattle.std.proofs.lemmas.Fmt.{digits_decimal}
 use Rattle.std.proofs.lemmas.Slice.Eq.{bytes_eq-Decides}
 use Rattle.form_urlencoded.specs.Form.{is_unchanged, serialize_byte, byte_serialize}
-use Rattle.form_urlencoded.proofs.FormLemmas.{byte_serialize-nil, byte_serialize-cons, byte_serialize-append}
+use Rattle.form_urlencoded.proofs.FormLemmas.{byte_serialize-nil, byte_serialize-cons}
 use Rattle.hex.specs.Hex.{IsBytes, lower_digits, encode_with, encode_lower, decode_sized}
 use Rattle.hex.proofs.HexLemmas.{length-encode_with, decode_sized-encode_lower, decode_sized-ok, decode_of-ok, decode_sized-twice}
 use Rattle.trust_types.specs.declared.levels.Level.{Level}
 use Rattle.trust_types.specs.declared.levels.Level.TheVariants.{Observer, Apprentice, Journeyer, Master, Fellow, Warden, Elder}
 use Rattle.trust_types.specs.declared.records.Secret.{Secret}
 use Rattle.trust_types.specs.declared.records.Secret.TheVariants.{Absent, Digest}
-use Rattle.trust_types.specs.Levels.{rank, level_name, level_of, levels}
+use Rattle.trust_types.specs.Levels.{level_name, level_of, levels}
 use Rattle.trust_types.specs.Names.{IsName, is_name, is_name_byte}
 use Rattle.site_records.specs.declared.faults.RowFault.TheVariants.{NotARow}
 use Rattle.site_records.specs.declared.versions.Version.{Version}
 use Rattle.site_records.specs.declared.versions.Version.TheVariants.{One, Two}
 use Rattle.site_records.specs.Records.{IsNumber, IsSecret}
 use Rattle.site_records.specs.Rows.{secret_text}
-use Rattle.site_records.specs.inner.Reading.{Read, number_in, account_in, name_in, digest_from, digest_in, secret_in, unless_not, ◌>>=◌, text_in, has_level, level_in}
-use Rattle.site_records.proofs.Steps.{given, refused, if-ok, bind-ok, ok_same, ok_or-ok, unless_not-ok}
+use Rattle.site_records.specs.inner.Reading.{number_in, account_in, name_in, digest_from, digest_in, secret_in, unless_not, ◌>>=◌, text_in, has_level, level_in}
+use Rattle.site_records.proofs.Steps.{if-ok, bind-ok, ok_same, ok_or-ok, unless_not-ok}
 use Rattle.site_records.proofs.Numbers.{own, number_in-decimal, number_in-ok}
 use Rattle.site_records.proofs.Pairs.{Reads}
 use Rattle.site_records.proofs.Values.{text_in-value, text_in-ok}

@@ -1,5 +1,5 @@
 -- The record of each kind, by its own pairs.
-use Rattle.std.proofs.Common.{◌≡◌, ℕ, ◌<◌, ◌≤◌, ◌^◌, Bool, true, false, cond, List, [], ◌∷◌, ◌++◌, Ok, Err, refl, sym, ap, ◌∙◌, arith, codes, decimal, subst, inl, inr}
+use Rattle.std.proofs.Common.{◌≡◌, ℕ, Bool, true, false, cond, List, [], ◌∷◌, Ok, refl, codes, decimal, subst, inl, inr}
 use Rattle.std.specs.Prelude.{◌⊎◌, IsUtf8}
 use Rattle.std.specs.Str.{bytes_eq}
 use Rattle.std.proofs.lemmas.Slice.Eq.{bytes_eq-Decides}
@@ -17,7 +17,7 @@ use Rattle.site_records.specs.declared.versions.Version.{Version}
 use Rattle.site_records.specs.declared.versions.Version.TheVariants.{One, Two}
 use Rattle.site_records.specs.Records.{IsRecord, IsNumber, IsSecret}
 use Rattle.site_records.specs.Rows.{Pair, pairs, of_kind, is_old, secret_text, entries_text}
-use Rattle.site_records.specs.inner.Reading.{Read, ◌>>=◌, record_in, post, new_kind, join_in, seed_in, unseed_in, cert_in, table_in, diary_in, article_in, reply_in, project_in, account_in, name_in, secret_in, text_in, level_in, levels_in, entries_in, has_level}
+use Rattle.site_records.specs.inner.Reading.{Read, record_in, post, new_kind, join_in, seed_in, unseed_in, cert_in, table_in, diary_in, article_in, reply_in, project_in, account_in, name_in, secret_in, text_in, level_in, levels_in, entries_in, has_level}
 use Rattle.site_records.proofs.Pairs.{fields, IsKey, one-back, two-back, three-back, one-only, two-only, three-only}
 use Rattle.site_records.proofs.Plain.{plain, reads_account, reads_name, reads_secret, reads_text, reads_level}
 use Rattle.site_records.proofs.Tabled.{reads_levels, reads_entries}

@@ -1,9 +1,7 @@
 -- What a step that gave something was made of.
-use Rattle.std.proofs.Common.{◌≡◌, ℕ, Bool, true, false, cond, List, Option, Some, None, Ok, Err, refl, ap, ◌∙◌}
-use Rattle.std.specs.Prelude.{Result}
+use Rattle.std.proofs.Common.{◌≡◌, Bool, true, false, cond, Option, Some, None, Ok, Err, refl, ap}
 use Rattle.std.specs.Option.{ok_or}
-use Rattle.site_records.specs.declared.faults.RowFault.{RowFault}
-use Rattle.site_records.specs.declared.faults.RowFault.TheVariants.{NotARow, NoMemory}
+use Rattle.site_records.specs.declared.faults.RowFault.TheVariants.{NotARow}
 use Rattle.site_records.specs.inner.Reading.{Read, ◌>>=◌, unless_not}
 
 -- A value that a step gives, and that it is no row.

@@ -1,8 +1,8 @@
 -- The two values of a table, read as what they stand for.
-use Rattle.std.proofs.Common.{◌≡◌, ◌≢◌, ℕ, suc, ◌+◌, ◌-◌, ◌<◌, ◌≤◌, ◌^◌, Bool, true, false, nat_le, nat_lt, cond, List, [], ◌∷◌, ◌++◌, length, get_or, map, Ok, Err, All, refl, sym, ap, ◌∙◌, arith, rules, decimal, ◌==◌, subst, add-one}
+use Rattle.std.proofs.Common.{◌≡◌, ℕ, suc, ◌-◌, ◌<◌, ◌≤◌, ◌^◌, Bool, true, false, nat_le, nat_lt, cond, List, [], ◌∷◌, ◌++◌, length, get_or, map, Ok, Err, All, refl, sym, ap, ◌∙◌, arith, decimal, ◌==◌, subst}
 use Rattle.std.specs.Prelude.{Result, slice_index}
 use Rattle.std.specs.Char.{is_ascii_digit}
-use Rattle.std.specs.List.{list_all, list_any, join_with_byte, slice_split}
+use Rattle.std.specs.List.{list_any, join_with_byte, slice_split}
 use Rattle.std.proofs.lemmas.Bool.{eqb-true}
 use Rattle.std.proofs.lemmas.Bool.Decides.{nat_tests}
 use Rattle.std.proofs.lemmas.Fmt.{digits_decimal}
@@ -17,10 +17,9 @@ use Rattle.trust_types.specs.declared.tables.CapsFault.{CapsFault}
 use Rattle.trust_types.specs.declared.tables.CapsFault.TheVariants.{Empty, Long, Zero, Large, Rises, EndNotOne}
 use Rattle.trust_types.specs.Tables.{IsLevelCount, AreEntries, rises, judged_entries}
 use Rattle.trust_types.proofs.TableTests.{AreEntries-from_tests, list_any-AreEntries, rises-AreEntries}
-use Rattle.site_records.specs.declared.faults.RowFault.TheVariants.{NotARow}
 use Rattle.site_records.specs.Rows.{entries_text}
 use Rattle.site_records.specs.inner.Reading.{Read, ◌>>=◌, unless_not, number_in, levels_in, numbers_in, judged, entries_in}
-use Rattle.site_records.proofs.Steps.{given, refused, if-ok, bind-ok, ok_same, unless_not-ok}
+use Rattle.site_records.proofs.Steps.{bind-ok, ok_same, unless_not-ok}
 use Rattle.site_records.proofs.Numbers.{own, number_in-decimal, number_in-ok}
 use Rattle.site_records.proofs.Entering.{is_plus}
 use Rattle.site_records.proofs.Pairs.{Reads}
@@ -90,9 +89,9 @@ judged-are entries are =
     let some : (length entries == 0) ≡ false = grind (arith, nat_tests, are.some) in
     let few : nat_lt MOST_ENTRIES (length entries) ≡ false = grind (arith, nat_tests, are.few) in
     let zeros : list_any (λ entry. entry == 0) entries ≡ false = list_any_none (λ entry. entry == 0) entries (λ i d inside.
-        let same : get_or entries i d ≡ get_or entries i 0 = get_or_default_zero entries i d inside in
-        let least : 1 ≤ get_or entries i 0 = are.least i inside in
-        grind (arith, nat_tests)) in
+    let same : get_or entries i d ≡ get_or entries i 0 = get_or_default_zero entries i d inside in
+    let least : 1 ≤ get_or entries i 0 = are.least i inside in
+    grind (arith, nat_tests)) in
     let large : list_any (λ entry. nat_lt GREATEST_ENTRY entry) entries ≡ false = list_any-AreEntries entries are in
     let end : (slice_index entries (length entries - 1) == 1) ≡ true = rw (are.end) refl in
     rw (some, few, zeros, large, rises-AreEntries entries are, end) refl

@@ -1,6 +1,6 @@
 -- A text and the value that a form gives it.
-use Rattle.std.proofs.Common.{◌≡◌, ℕ, ◌+◌, ◌*◌, ◌/◌, ◌%◌, ◌<◌, ◌≤◌, Bool, true, false, ◌&&◌, cond, List, [], ◌∷◌, ◌++◌, length, take, drop, Ok, Err, All, refl, ⊎_elim, nat_lt, sym, ap, ◌∙◌, arith, rules, subst, take-append-drop}
-use Rattle.std.specs.Prelude.{◌↔◌, ◌⊎◌, IsUtf8}
+use Rattle.std.proofs.Common.{◌≡◌, ℕ, ◌+◌, ◌/◌, ◌<◌, Bool, true, false, ◌&&◌, List, [], ◌∷◌, ◌++◌, length, take, drop, Ok, Err, All, refl, ⊎_elim, nat_lt, sym, ap, ◌∙◌, arith, subst, take-append-drop}
+use Rattle.std.specs.Prelude.{◌↔◌, IsUtf8}
 use Rattle.std.specs.Str.{bytes_eq, is_utf8}
 use Rattle.std.proofs.lemmas.Bool.{and_parts, cond_both, false≢true}
 use Rattle.std.proofs.lemmas.Bool.Decides.{nat_tests}

@@ -1,6 +1,6 @@
 -- Rows are read back, and what is read is a row.
-use Rattle.std.proofs.Common.{◌≡◌, ℕ, ◌<◌, ◌≤◌, ◌^◌, Bool, true, false, cond, List, [], ◌∷◌, ◌++◌, Ok, Err, Some, None, All, refl, sym, ap, ◌∙◌, arith, codes, decimal, subst, inl, inr}
-use Rattle.std.specs.Prelude.{◌⊎◌, ◌≢◌, Result, IfOk, IfErr}
+use Rattle.std.proofs.Common.{◌≡◌, ℕ, ◌<◌, ◌≤◌, ◌^◌, Bool, true, false, cond, List, [], ◌∷◌, ◌++◌, Ok, Err, Some, None, refl, sym, ap, ◌∙◌, arith, codes, decimal, subst, inl, inr}
+use Rattle.std.specs.Prelude.{◌⊎◌, ◌≢◌, IfOk, IfErr}
 use Rattle.std.specs.Str.{bytes_eq}
 use Rattle.std.proofs.lemmas.Slice.Eq.{bytes_eq-Decides}
 use Rattle.form_urlencoded.specs.Form.{byte_serialize, serialize_pair, extend_pairs}
@@ -14,13 +14,13 @@ use Rattle.site_records.specs.declared.faults.RowFault.TheVariants.{NotARow, NoM
 use Rattle.site_records.specs.declared.versions.Version.{Version}
 use Rattle.site_records.specs.declared.versions.Version.TheVariants.{One, Two}
 use Rattle.site_records.specs.Records.{IsRecord}
-use Rattle.site_records.specs.Rows.{pairs, of_kind, version_name, row_in, row, is_old, old_row, IsRowOf}
+use Rattle.site_records.specs.Rows.{of_kind, version_name, row_in, is_old, IsRowOf}
 use Rattle.site_records.specs.inner.Reading.{Read, Reads, ◌>>=◌, value_at, version_in, number_in, record_in, read}
 use Rattle.site_records.proofs.Steps.{bind-ok, ok_same}
 use Rattle.site_records.proofs.Numbers.{number_in-decimal, number_in-ok}
-use Rattle.site_records.proofs.Pairs.{fields, row_fields, field_key, Plain, Behind, plain_value, behind_fields, value_at-field, value_at-ok}
+use Rattle.site_records.proofs.Pairs.{fields, row_fields, field_key, Plain, plain_value, behind_fields, value_at-field, value_at-ok}
 use Rattle.site_records.proofs.Plain.{plain, plain-decimal}
-use Rattle.site_records.proofs.Recorded.{kind_of, own, pairs_are, plain-kind, has, key_k, key_m, Told, record_back, record_only}
+use Rattle.site_records.proofs.Recorded.{kind_of, own, pairs_are, plain-kind, has, key_k, key_m, record_back, record_only}
 
 -- ---- a row, piece by piece
 
@@ -163,6 +163,10 @@ row_read bytes x e =
 pub told_record : (bytes : List ℕ) (r : Read Record) → Reads r (read bytes) → IfOk r IsRecord
 told_record bytes (Ok x) e = (row_read bytes x e).0
 told_record bytes (Err fault) e = tt
+
+pub told_moment : (bytes : List ℕ) (r : Read Record) → Reads r (read bytes) → IfOk r (λ x. IsMoment (moment_of x))
+told_moment bytes (Ok x) e = moment_is x (row_read bytes x e).0
+told_moment bytes (Err fault) e = tt
 
 pub told_row : (bytes : List ℕ) (r : Read Record) → Reads r (read bytes) → IfOk r (λ x. IsRowOf x bytes)
 told_row bytes (Ok x) e = (row_read bytes x e).1

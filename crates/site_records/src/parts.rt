@@ -19,11 +19,7 @@ use trust_types::{AccountNo, Level, Name, Secret};
 pub fn unless_not(test: bool) -> Result<(), RowFault>
     ensures { result ≡ unless_not test }
 {
-    if test {
-        Ok(())
-    } else {
-        Err(RowFault::NotARow)
-    }
+    if test { Ok(()) } else { Err(RowFault::NotARow) }
 }
 
 /// A number of which the value is a text.

@@ -3,6 +3,7 @@
 ghost use Rattle.std.specs.Prelude.{◌≡◌, Ok, Err, ℕ, IfOk, IfErr, ◌≢◌};
 ghost use Rattle.std.specs.Str.{bytes_eq};
 ghost use Rattle.trust_types.specs.declared.records.Record.{Record as Kept};
+ghost use Rattle.trust_types.specs.Kept.{IsMoment, moment_of};
 ghost use Rattle.site_records.specs.declared.faults.RowFault.TheVariants.{NotARow as NoRow, NoMemory as NoMemoryLeft};
 ghost use Rattle.site_records.specs.Records.{IsRecord};
 ghost use Rattle.site_records.specs.Rows.{IsRowOf};
@@ -24,6 +25,7 @@ use trust_types::{Caps, LAST_MOMENT, Record};
 /// [`RowFault::NotARow`] exactly where no record has this row, and [`RowFault::NoMemory`] where memory ran out.
 pub fn read_row(alloc: Global, bytes: &[u8]) -> Result<Record, RowFault>
     ensures record { IfOk result IsRecord }
+    ensures moment { IfOk result (λ x. IsMoment (moment_of x)) }
     ensures row { IfOk result (λ x. IsRowOf x bytes.now) }
     ensures none { IfErr result (λ fault. fault ≡ NoRow → (x : Kept) → IsRecord x → ¬ (IsRowOf x bytes.now)) }
     ensures exact { (x : Kept) → IsRecord x → IsRowOf x bytes.now → result ≢ Err NoMemoryLeft → result ≡ Ok x }
@@ -97,12 +99,7 @@ fn read_post(
 }
 
 /// A record of a kind that version 1 hadn't.
-fn read_new_kind(
-    version: Version,
-    kind: &[u8],
-    moment: u64,
-    row: &[u8],
-) -> Result<Record, RowFault>
+fn read_new_kind(version: Version, kind: &[u8], moment: u64, row: &[u8]) -> Result<Record, RowFault>
     ensures { result ≡ new_kind version kind.now moment row.now }
 {
     match version {

@@ -4,7 +4,6 @@ ghost use Rattle.std.specs.Prelude.{◌≡◌, ◌∷◌, [], ◌++◌, ◌<◌,
 ghost use Rattle.form_urlencoded.specs.Form.{append_pair, extend_pairs};
 ghost use Rattle.trust_types.specs.declared.records.Record.TheVariants as records;
 ghost use Rattle.trust_types.specs.Kept.{IsMoment, moment_of};
-ghost use Rattle.site_records.specs.Records.{IsRecord};
 ghost use Rattle.site_records.specs.Rows.{of_kind, row, secret_text, entries_text};
 ghost use Rattle.site_records.specs.inner.Writing.{begun, with_pair, finished};
 
@@ -118,15 +117,15 @@ fn finish(form: Serializer) -> Vec<u8>
     form.finish().into_bytes()
 }
 
-fn join_row(
-    alloc: Global,
-    moment: u64,
-    name: &Name,
-    secret: &Secret,
-) -> Result<Vec<u8>, NoMemory>
+fn join_row(alloc: Global, moment: u64, name: &Name, secret: &Secret) -> Result<Vec<u8>, NoMemory>
     ensures { IfOk result (λ bytes. bytes.items ≡ row (records.Join moment name.now secret.now)) }
 {
-    let mut form = begin(alloc, "join", moment, room_for(name.as_str()).saturating_add(SECRET))?;
+    let mut form = begin(
+        alloc,
+        "join",
+        moment,
+        room_for(name.as_str()).saturating_add(SECRET),
+    )?;
     put(&mut form, "n", name.as_str())?;
     put_secret(&mut form, secret)?;
     Ok(finish(form))
@@ -147,12 +146,7 @@ fn put_secret(form: &mut Serializer, secret: &Secret) -> Result<(), NoMemory>
 }
 
 /// A row of a kind whose own pair is an account: it becomes a seed, or is one no more.
-fn seed_row(
-    alloc: Global,
-    kind: &str,
-    moment: u64,
-    subject: AccountNo,
-) -> Result<Vec<u8>, NoMemory>
+fn seed_row(alloc: Global, kind: &str, moment: u64, subject: AccountNo) -> Result<Vec<u8>, NoMemory>
     ensures { IfOk result (λ bytes. bytes.items ≡ extend_pairs [] ((codes "v", codes "2") ∷ of_kind kind.now moment ((codes "a", decimal subject) ∷ []))) }
 {
     let mut form = begin(alloc, kind, moment, NUMBER)?;

@@ -1,5 +1,5 @@
 -- How a row is read from its front to its end. Each step gives a value, or finds that the bytes are no row.
-use Rattle.std.specs.Prelude.{ℕ, Bool, true, false, List, [], ◌∷◌, ◌≡◌, ◌⊎◌, MatchResult, ◌==◌, ◌&&◌, nat_le, nat_lt, Option, Some, None, Result, Ok, Err, codes, decimal, length, take, drop, map, if◌then◌else◌}
+use Rattle.std.specs.Prelude.{ℕ, Bool, true, false, List, [], ◌∷◌, ◌≡◌, ◌⊎◌, MatchResult, ◌==◌, ◌&&◌, nat_le, nat_lt, Some, None, Result, Ok, Err, codes, decimal, length, take, drop, if◌then◌else◌}
 use Rattle.std.specs.List.{position_or_len, slice_split}
 use Rattle.std.specs.Option.{ok_or}
 use Rattle.std.specs.Str.{bytes_eq, is_utf8}

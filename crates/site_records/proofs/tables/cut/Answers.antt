@@ -1,4 +1,4 @@
-use Rattle.std.proofs.Common.{◌+◌, drop, sym, arith}
+use Rattle.std.proofs.Common.{◌+◌, arith}
 use Rattle.std.proofs.lemmas.List.{take_rest}
 use Rattle.site_records.proofs.Entering.{cut-none, cut-some}
 use Rattle.site_records.proofs.tables.cut.Goals as goal

@@ -1,7 +1,7 @@
-use Rattle.std.proofs.Common.{◌≡◌, List, subst, sym, rules}
-use Rattle.std.specs.Str.{IsUtf8, IsAscii}
+use Rattle.std.proofs.Common.{subst, sym}
+use Rattle.std.specs.Str.{IsUtf8}
 use Rattle.std.proofs.lemmas.Str.{IsUtf8-from_ascii}
-use Rattle.hex.specs.Hex.{lower_digits, encode_lower}
+use Rattle.hex.specs.Hex.{lower_digits}
 use Rattle.hex.proofs.HexLemmas.{IsAscii-encode_with}
 use Rattle.site_records.proofs.Spelled.{IsAscii-lower_digits}
 use Rattle.site_records.proofs.writing.put_secret.Goals as goal
