@@ -1,0 +1,10 @@
+pub mod Steps
+pub mod Numbers
+pub mod Spelled
+pub mod Entering
+pub mod Values
+pub mod Pairs
+pub mod Plain
+pub mod Tabled
+pub mod Recorded
+pub mod Whole
