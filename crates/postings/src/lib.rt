@@ -2,8 +2,8 @@
 #![tactic(auto)]
 
 mod judging;
-mod postings;
+mod places;
 mod shelves;
 
 pub use judging::PostFault;
-pub use postings::Postings;
+pub use places::Room;
