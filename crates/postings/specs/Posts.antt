@@ -1,6 +1,6 @@
 -- The posts of a site: which records are posts, and how they are numbered. A site's posts are a list of records in the order in which they were
 -- added.
-use Rattle.std.specs.Prelude.{ℕ, Bool, true, false, List, Option, Some, None, ◌==◌, ◌≡◌, ◌<◌, length, filter, filter_map}
+use Rattle.std.specs.Prelude.{ℕ, Bool, true, false, List, Option, Some, None, ◌==◌, ◌≡◌, ◌<◌, is_some, length, filter, filter_map}
 use Rattle.std.specs.Str.{bytes_eq}
 use Rattle.trust_types.specs.declared.records.Record.{Record}
 use Rattle.trust_types.specs.declared.records.Record.TheVariants.{Diary, Article, Reply, Project}
@@ -28,8 +28,7 @@ is_reply_to n _ = false
 
 -- Whether it opens a project, and whether one of this name.
 abbrev pub is_project : Record → Bool
-is_project (Project moment author name text) = true
-is_project _ = false
+is_project x = is_some (project_of x)
 
 abbrev pub is_project_named : List ℕ → Record → Bool
 is_project_named word (Project moment author name text) = bytes_eq name word
