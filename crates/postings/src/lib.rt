@@ -3,7 +3,9 @@
 
 mod judging;
 mod places;
+mod postings;
 mod shelves;
 
 pub use judging::PostFault;
 pub use places::Room;
+pub use postings::Postings;
