@@ -1,5 +1,5 @@
 -- Places of posts: what stands at them, and one more post.
-use Rattle.std.proofs.Common.{◌≡◌, ℕ, zero, suc, ◌+◌, not, ◌≤◌, ◌<◌, Bool, true, false, cond, List, [], ◌∷◌, ◌++◌, Option, Some, None, length, map, slice_get, refl, sym, ◌∙◌, ap, subst, arith, append-nil, ◌≢◌, ◌==◌, ◌⊎◌, inl, inr, eq-eqb, lt-ltb}
+use Rattle.std.proofs.Common.{◌≡◌, ℕ, zero, suc, ◌+◌, not, ◌≤◌, ◌<◌, Bool, true, false, cond, List, [], ◌∷◌, ◌++◌, Option, Some, None, length, map, slice_get, refl, sym, ◌∙◌, ap, subst, arith, append-nil, ◌≢◌, ◌==◌, ◌⊎◌, inl, inr, eq-eqb, lt-ltb, le-ltb}
 use Rattle.std.specs.List.{filter, filter_map, cons_option, find, position_or_len}
 use Rattle.std.specs.Prelude.{is_some, slice_index}
 use Rattle.std.specs.Str.{bytes_eq}
@@ -42,6 +42,29 @@ no_more p (x ∷ posts) = by_test (p x) (no_more p posts)
     by_test : (passes : Bool) → length (filter p posts) ≤ length posts → length (cond passes (x ∷ filter p posts) (filter p posts)) ≤ suc (length posts)
     by_test true rest = omega arith
     by_test false rest = omega arith
+
+-- What is read at places that tell those posts which pass a test: how many they are, and the n-th.
+pub counted : (p : Record → Bool) (posts now : List Record) (places at : List ℕ) → posts ≡ now → at ≡ places → AreAt posts places (filter p posts) →
+    (length at ≤ length posts) × (length at ≡ length (filter p now))
+counted p posts now places at same lent are =
+    let many : length at ≡ length (filter p posts) = ap length lent ∙ as_many posts places (filter p posts) are in
+    let few : length (filter p posts) ≤ length posts = no_more p posts in
+    (omega arith, many ∙ ap (λ posts. length (filter p posts)) same)
+
+pub read : (p : Record → Bool) (posts now there : List Record) (places at : List ℕ) (n : ℕ) → posts ≡ now → there ≡ posts → at ≡ places →
+    AreAt posts places (filter p posts) → n < length (filter p now) →
+    (slice_index at n < length there) × (slice_get there (slice_index at n) ≡ slice_get (filter p now) n)
+read p posts now there places at n same whole lent are within =
+    let many : length places ≡ length (filter p posts) = as_many posts places (filter p posts) are in
+    let before : n < length (filter p posts) = subst (λ posts. n < length (filter p posts)) (sym same) within in
+    let found : (slice_index places n < length posts) × (slice_get (filter p posts) n ≡ slice_get posts (slice_index places n)) =
+    nth_there posts places (filter p posts) n are (omega arith) in
+    let inside : slice_index at n < length posts = subst (λ at. slice_index at n < length posts) (sym lent) found.0 in
+    (
+      subst (λ there. slice_index at n < length there) (sym whole) inside,
+      ap (λ there. slice_get there (slice_index at n)) whole ∙ ap (λ at. slice_get posts (slice_index at n)) lent ∙ sym found.1
+      ∙ ap (λ posts. slice_get (filter p posts) n) same,
+    )
 
 -- A post further on changes nothing of what stands before it.
 pub still_there : (posts : List Record) (x y : Record) (place : ℕ) → slice_get posts place ≡ Some y → slice_get (posts ++ x ∷ []) place ≡ Some y
@@ -128,6 +151,21 @@ by_name_and_number word (Project moment author name text ∷ posts) = by_test (b
         omega arith in
         rest ∙ ap (slice_get (Project moment author name text ∷ filter is_project posts)) next
 by_name_and_number word (x ∷ posts) = by_name_and_number word posts
+
+pub number_within : (names : List (List ℕ)) (word : List ℕ) (n : ℕ) → number_of names word ≡ Some n → n < length names
+number_within names word n numbered = elim (cases_lt (position_or_len (λ other. bytes_eq other word) names) (length names)) [
+  | inl within ↦ let place : position_or_len (λ other. bytes_eq other word) names ≡ n = at_place _ numbered in omega arith
+  | inr past ↦ absurd (not_past _ numbered (le-ltb _ _ past))
+]
+  where
+    at_place : (within : Bool) → cond within (Some (position_or_len (λ other. bytes_eq other word) names)) None ≡ Some n →
+        position_or_len (λ other. bytes_eq other word) names ≡ n
+    at_place true is = cc
+    at_place false is = absurd (cc)
+
+    not_past : (within : Bool) → cond within (Some (position_or_len (λ other. bytes_eq other word) names)) None ≡ Some n → within ≡ false → ⊥
+    not_past true is same = absurd (cc)
+    not_past false is same = absurd (cc)
 
 pub project_found : (word : List ℕ) (posts : List Record) (n : ℕ) → number_of (projects posts) word ≡ Some n →
     find (is_project_named word) posts ≡ slice_get (filter is_project posts) n

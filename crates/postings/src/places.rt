@@ -48,14 +48,14 @@ impl Places {
     }
 
     /// Makes room for the place of one more post. The places stay as they are, whatever it answers.
-    pub(crate) fn reserve(&mut self, room: Room) -> Result<(), NoMemory>
-        ensures room { OnOk result (HasRoom self.new room) }
+    pub(crate) fn reserve(&mut self, room: &Room) -> Result<(), NoMemory>
+        ensures room { OnOk result (HasRoom self.new room.now) }
         ensures same { (posts : List Kept) → ArePlacesOf posts self.old → ArePlacesOf posts self.new }
     {
         match room {
             Room::Diary(author) => Ok(self.diaries.reserve(author.0)?),
             Room::Article => Ok(self.articles.reserve()?),
-            Room::Reply(article) => Ok(self.replies.reserve(article)?),
+            Room::Reply(article) => Ok(self.replies.reserve(*article)?),
             Room::Project => {
                 self.projects.reserve()?;
                 self.names.reserve()

@@ -25,7 +25,7 @@ pub struct Postings {
 }
 
 impl Model for Postings {
-    ghost use Rattle.std.specs.Prelude.{◌<◌, ◌^◌, IfSome, vec_len, vec_capacity};
+    ghost use Rattle.std.specs.Prelude.{◌<◌, ◌^◌, IfSome, length, vec_len, vec_capacity};
     ghost use Rattle.postings.specs.Posts.{Posts};
     ghost use Rattle.postings.specs.inner.Places.{ArePlacesOf, HasRoom};
 
@@ -34,7 +34,7 @@ impl Model for Postings {
     ghost view = { λ postings. record { posts = postings.posts.items; room = postings.room } };
 
     ghost invariant = { λ postings. record {
-        few : vec_len postings.posts < 2 ^ 32;
+        few : length postings.posts.items < 2 ^ 32;
         kept : ArePlacesOf postings.posts.items postings.places;
         room : IfSome postings.room (λ room. (vec_len postings.posts < vec_capacity postings.posts) × HasRoom postings.places room);
     } };
@@ -130,7 +130,7 @@ impl Postings {
         let room = room_for(kind, author, article);
         self.room = None;
         self.posts.reserve(1)?;
-        self.places.reserve(room)?;
+        self.places.reserve(&room)?;
         self.room = Some(room);
         Ok(())
     }
