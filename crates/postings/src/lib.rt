@@ -2,8 +2,10 @@
 #![tactic(auto)]
 
 mod judging;
+mod places;
 mod postings;
 mod shelves;
 
 pub use judging::PostFault;
+pub use places::Room;
 pub use postings::Postings;
