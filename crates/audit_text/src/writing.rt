@@ -20,7 +20,9 @@ use itoa::Buffer;
 use name_index::NameIndex;
 use roster_form::LevelRoster;
 use std::alloc::Global;
-use trust_types::{AccountNo, Caps, Cert, CertGraph, FlowLine, Level, MOST_ACCOUNTS, NoMemory, Node};
+use trust_types::{
+    AccountNo, Caps, Cert, CertGraph, FlowLine, Level, MOST_ACCOUNTS, NoMemory, Node,
+};
 
 /// About as many bytes as the line of an account or of a certificate has.
 const LINE: usize = 32;
@@ -79,6 +81,7 @@ fn put_levels(text: &mut Vec<u8>, caps: &Caps) -> Result<(), NoMemory>
     Ok(())
 }
 
+/// The line `levels` of that number.
 fn put_count(text: &mut Vec<u8>, levels: u32) -> Result<(), NoMemory>
     ensures { OnOk result (text.new.items ≡ text.old.items ++ line (count_words levels)) }
 {

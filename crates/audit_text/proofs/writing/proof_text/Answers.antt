@@ -1,4 +1,4 @@
-use Rattle.std.proofs.Common.{◌<◌, ◌^◌, ◌∙◌, List, All, arith, subst}
+use Rattle.std.proofs.Common.{◌<◌, ◌^◌, List, All, arith, subst}
 use Rattle.trust_types.specs.declared.flows.FlowLine.{FlowLine}
 use Rattle.trust_types.specs.NameLists.{AreApart}
 use Rattle.trust_types.specs.Names.{IsName}
