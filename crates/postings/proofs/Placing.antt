@@ -1,6 +1,6 @@
 -- Places of posts: what stands at them, and one more post.
-use Rattle.std.proofs.Common.{◌≡◌, ℕ, zero, suc, ◌+◌, not, ◌≤◌, ◌<◌, Bool, true, false, cond, List, [], ◌∷◌, ◌++◌, Option, Some, None, length, map, slice_get, refl, sym, ◌∙◌, ap, subst, arith, append-nil, ◌≢◌, ◌==◌, ◌⊎◌, inl, inr, eq-eqb, lt-ltb, le-ltb}
-use Rattle.std.specs.List.{filter, filter_map, cons_option, find, position_or_len}
+use Rattle.std.proofs.Common.{◌≡◌, ℕ, zero, suc, ◌+◌, not, ◌≤◌, ◌<◌, Bool, true, false, cond, List, [], ◌∷◌, ◌++◌, Option, Some, None, length, map, slice_get, refl, sym, ◌∙◌, ap, subst, arith, append-nil, ◌≢◌, ◌==◌, inl, inr, eq-eqb, lt-ltb, le-ltb}
+use Rattle.std.specs.List.{filter, cons_option, find, position_or_len}
 use Rattle.std.specs.Prelude.{is_some, slice_index}
 use Rattle.std.specs.Str.{bytes_eq}
 use Rattle.std.proofs.lemmas.List.{length-map, map-append}
@@ -59,11 +59,10 @@ read p posts now there places at n same whole lent are within =
     let before : n < length (filter p posts) = subst (λ posts. n < length (filter p posts)) (sym same) within in
     let found : (slice_index places n < length posts) × (slice_get (filter p posts) n ≡ slice_get posts (slice_index places n)) =
     nth_there posts places (filter p posts) n are (omega arith) in
-    let inside : slice_index at n < length posts = subst (λ at. slice_index at n < length posts) (sym lent) found.0 in
-    (
+    let inside : slice_index at n < length posts = subst (λ at. slice_index at n < length posts) (sym lent) found.0 in (
       subst (λ there. slice_index at n < length there) (sym whole) inside,
       ap (λ there. slice_get there (slice_index at n)) whole ∙ ap (λ at. slice_get posts (slice_index at n)) lent ∙ sym found.1
-      ∙ ap (λ posts. slice_get (filter p posts) n) same,
+          ∙ ap (λ posts. slice_get (filter p posts) n) same,
     )
 
 -- A post further on changes nothing of what stands before it.

@@ -1,6 +1,6 @@
 -- The posts of a site: which records are posts, and how they are numbered. A site's posts are a list of records in the order in which they were
 -- added.
-use Rattle.std.specs.Prelude.{ℕ, Bool, true, false, List, Option, Some, None, ◌==◌, ◌≡◌, ◌<◌, is_some, length, filter, filter_map}
+use Rattle.std.specs.Prelude.{ℕ, Bool, false, List, Option, Some, None, ◌==◌, ◌≡◌, ◌<◌, is_some, length, filter, filter_map}
 use Rattle.std.specs.Str.{bytes_eq}
 use Rattle.trust_types.specs.declared.records.Record.{Record}
 use Rattle.trust_types.specs.declared.records.Record.TheVariants.{Diary, Article, Reply, Project}

@@ -34,9 +34,9 @@ impl Model for Postings {
     ghost view = { λ postings. record { posts = postings.posts.items; room = postings.room } };
 
     ghost invariant = { λ postings. record {
-        few : length postings.posts.items < 2 ^ 32;
-        kept : ArePlacesOf postings.posts.items postings.places;
-        room : IfSome postings.room (λ room. (vec_len postings.posts < vec_capacity postings.posts) × HasRoom postings.places room);
+      few : length postings.posts.items < 2 ^ 32;
+      kept : ArePlacesOf postings.posts.items postings.places;
+      room : IfSome postings.room (λ room. (vec_len postings.posts < vec_capacity postings.posts) × HasRoom postings.places room);
     } };
 }
 
@@ -122,7 +122,12 @@ impl Postings {
     ///
     /// # Errors
     /// [`NoMemory`] where there isn't enough.
-    pub fn reserve(&mut self, kind: PostKind, author: AccountNo, article: u32) -> Result<(), NoMemory>
+    pub fn reserve(
+        &mut self,
+        kind: PostKind,
+        author: AccountNo,
+        article: u32,
+    ) -> Result<(), NoMemory>
         requires { kind ≡ OfReply → article < length (articles self.old.posts) }
         ensures room { OnOk result (self.new.room ≡ Some (room_for kind author article)) }
         ensures same { self.new.posts ≡ self.old.posts }

@@ -1,8 +1,6 @@
 -- Where posts stand. The crate's own functions alone speak of it.
-use Rattle.std.specs.Prelude.{ℕ, ◌≡◌, ◌<◌, List, Option, Some, None, map, filter, slice_get}
+use Rattle.std.specs.Prelude.{ℕ, ◌≡◌, ◌<◌, List, Some, map, filter, slice_get}
 use Rattle.trust_types.specs.declared.records.Record.{Record}
-use Rattle.trust_types.specs.declared.records.Record.TheVariants.{Diary, Article, Reply, Project}
-use Rattle.trust_types.specs.NameLists.{number_of}
 use Rattle.name_index.specs.Numbers.{AreNumbersOf}
 use Rattle.postings.specs.declared.places.Places.{Places}
 use Rattle.postings.specs.declared.places.Room.{Room}

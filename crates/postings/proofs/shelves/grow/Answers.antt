@@ -1,4 +1,4 @@
-use Rattle.std.proofs.Common.{rules, arith, sym, ap, ◌∙◌}
+use Rattle.std.proofs.Common.{arith, ap, ◌∙◌}
 use Rattle.postings.specs.inner.Shelves.{places_at}
 use Rattle.postings.proofs.Shelving.{one_more}
 use Rattle.postings.proofs.shelves.grow.Goals as goal

@@ -1,4 +1,4 @@
-use Rattle.std.proofs.Common.{◌++◌, ◌∷◌, [], ◌≡◌, ◌≤◌, ◌<◌, List, length, arith, sym, ap, subst, ◌∙◌, Option, None}
+use Rattle.std.proofs.Common.{◌++◌, ◌∷◌, [], ◌≡◌, length, arith, sym, ap, subst, ◌∙◌, None}
 use Rattle.std.specs.List.{filter}
 use Rattle.trust_types.specs.declared.records.Record.TheVariants.{Diary}
 use Rattle.trust_types.specs.Kept.{is_article}
@@ -28,8 +28,8 @@ pub returns-in-Diary-clause-kept : goal.returns-in-Diary-clause-kept
 returns-in-Diary-clause-kept c =
     subst (λ entry. ArePlacesOf (c.args.posts.now ++ entry ∷ []) (record c.args.self.now { diaries = c.push.new.self })) (sym c.in-Diary.is)
     (subst (λ author. ArePlacesOf (c.args.posts.now ++ Diary c.in-Diary.moment author c.in-Diary.text ∷ []) (record c.args.self.now { diaries = c.push.new.self }))
-      c.author.view_is
-      (diary_added c.args.posts.now c.args.self.now c.in-Diary.moment c.author.inside.0 c.in-Diary.text c.push.new.self c.requires.kept c.push.ensures.there c.push.ensures.others))
+    c.author.view_is
+    (diary_added c.args.posts.now c.args.self.now c.in-Diary.moment c.author.inside.0 c.in-Diary.text c.push.new.self c.requires.kept c.push.ensures.there c.push.ensures.others))
 
 pub returns-in-Diary-clause-number : goal.returns-in-Diary-clause-number
 returns-in-Diary-clause-number c =
@@ -62,7 +62,7 @@ returns-in-Project-clause-kept c =
     subst (λ entry. ArePlacesOf (c.args.posts.now ++ entry ∷ []) (record c.args.self.now { projects = c.push-in-Project.new.self; names = c.push-in-Project-2.new.self }))
     (sym c.in-Project.is)
     (project_added c.args.posts.now c.args.self.now c.in-Project.moment c.in-Project.author c.in-Project.name c.in-Project.text c.push-in-Project.new.self c.push-in-Project-2.new.self c.requires.kept
-      c.push-in-Project.ensures (c.push-in-Project-2.ensures _ c.requires.kept.names free next))
+    c.push-in-Project.ensures (c.push-in-Project-2.ensures _ c.requires.kept.names free next))
 
 pub returns-in-Project-clause-number : goal.returns-in-Project-clause-number
 returns-in-Project-clause-number c =

@@ -1,5 +1,4 @@
 use Rattle.std.proofs.Common.{sym, subst}
-use Rattle.postings.specs.inner.Shelves.{Shelf}
 use Rattle.postings.specs.inner.Places.{AreAt}
 use Rattle.postings.specs.Posts.{is_project}
 use Rattle.std.specs.List.{filter}

@@ -1,5 +1,4 @@
-use Rattle.std.proofs.Common.{ap, subst, sym, ◌∙◌, ◌<◌, length}
-use Rattle.std.specs.List.{filter}
+use Rattle.std.proofs.Common.{ap, ◌∙◌}
 use Rattle.trust_types.specs.Kept.{is_article}
 use Rattle.postings.proofs.Placing.{read}
 use Rattle.postings.proofs.postings.Postings.article.Goals as goal

@@ -1,5 +1,4 @@
-use Rattle.std.proofs.Common.{ap, arith, ◌∙◌, length}
-use Rattle.std.specs.List.{filter}
+use Rattle.std.proofs.Common.{ap, arith}
 use Rattle.trust_types.specs.Kept.{is_article}
 use Rattle.postings.proofs.Placing.{counted}
 use Rattle.postings.proofs.postings.Postings.article_count.Goals as goal

@@ -1,4 +1,4 @@
-use Rattle.std.proofs.Common.{ap, arith, subst, sym, ◌∙◌, ◌≡◌, ◌<◌, length, refl, Some, None, slice_get}
+use Rattle.std.proofs.Common.{ap, arith, sym, ◌∙◌, ◌≡◌, ◌<◌, length, refl, Some}
 use Rattle.std.specs.List.{filter, find}
 use Rattle.trust_types.specs.NameLists.{number_of}
 use Rattle.postings.specs.Posts.{is_project, is_project_named, projects}
@@ -7,8 +7,13 @@ use Rattle.postings.proofs.postings.Postings.project.Goals as goal
 
 pub post_at-requires-clause-within : goal.post_at-requires-clause-within
 post_at-requires-clause-within c =
-    omega (arith, ap length c.places.ensures, as_many _ _ _ c.self.invariant.kept.projects, as_many_names c.self.inside.posts.items,
-      number_within _ c.args.name.now c.in-Some.number (sym (c.in-Some.ensures _ c.self.invariant.kept.names)))
+    omega (
+      arith,
+      ap length c.places.ensures,
+      as_many _ _ _ c.self.invariant.kept.projects,
+      as_many_names c.self.inside.posts.items,
+      number_within _ c.args.name.now c.in-Some.number (sym (c.in-Some.ensures _ c.self.invariant.kept.names)),
+    )
 
 pub post_at-requires-clause-inside : goal.post_at-requires-clause-inside
 post_at-requires-clause-inside c =

@@ -1,5 +1,4 @@
-use Rattle.std.proofs.Common.{ap, subst, sym, ◌∙◌, ◌<◌, length}
-use Rattle.std.specs.List.{filter}
+use Rattle.std.proofs.Common.{ap, ◌∙◌}
 use Rattle.postings.specs.Posts.{is_reply_to}
 use Rattle.postings.proofs.Placing.{read}
 use Rattle.postings.proofs.postings.Postings.reply.Goals as goal

@@ -1,5 +1,4 @@
-use Rattle.std.proofs.Common.{ap, arith, ◌∙◌, length}
-use Rattle.std.specs.List.{filter}
+use Rattle.std.proofs.Common.{ap, arith}
 use Rattle.postings.specs.Posts.{is_reply_to}
 use Rattle.postings.proofs.Placing.{counted}
 use Rattle.postings.proofs.postings.Postings.reply_count.Goals as goal
