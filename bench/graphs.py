@@ -4,7 +4,7 @@
     bench/graphs.py KIND > FILE
 
 The kinds are those of `KINDS`. The lines stand in canonical order, the first accounts are the seeds, and the levels are drawn
-among the three grades. A kind gives the same text each time.
+among the three grades of a table of four levels. A kind gives the same text each time.
 """
 
 import random

@@ -1,3 +1,4 @@
 pub mod Bounded
 pub mod Sound
 pub mod Lowest
+pub mod Highest

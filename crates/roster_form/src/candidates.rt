@@ -1,7 +1,8 @@
 //! Rosters of one frozen graph, for all grades of its table.
 
-ghost use Rattle.std.specs.Prelude.{◌≡◌, ◌↔◌, IsSome, IsTrue, IfSome, find, map, option_map, slice_get};
+ghost use Rattle.std.specs.Prelude.{◌≡◌, ◌≤◌, ◌↔◌, IsSome, IsTrue, IfSome, find, map, option_map, slice_get};
 ghost use Rattle.std.specs.Option.{option_copied};
+ghost use Rattle.trust_types.specs.Levels.{rank};
 ghost use Rattle.trust_types.specs.Tables.{has_grade};
 ghost use Rattle.roster_form.specs.LevelRosters.{lists_of};
 ghost use Rattle.roster_form.specs.Candidates.{lists_at, accepts, IsSound, AreSound, AreRostersFor, held_level};
@@ -78,7 +79,8 @@ impl Candidate {
     /// The level that an account holds: the highest whose roster has it, Observer where none has. It takes no memory, and at
     /// most six binary searches.
     pub fn level_of(&self, account: AccountNo) -> Level
-        ensures { result ≡ held_level self.now account }
+        ensures value { result ≡ held_level self.now account }
+        ensures highest { (level : Level) → IsTrue (accepts self.now account level) → rank level ≤ rank result }
     {
         self.first_with(account, &Level::GRADES_DOWN)
             .unwrap_or(Level::Observer)

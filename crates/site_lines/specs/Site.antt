@@ -4,7 +4,7 @@ use Rattle.std.specs.Option.{ok_or}
 use Rattle.std.specs.Str.{bytes_eq}
 use Rattle.trust_types.specs.declared.levels.Level.{Level}
 use Rattle.trust_types.specs.declared.graphs.Cert.{Cert as Certificate}
-use Rattle.trust_types.specs.declared.limits.TheConstants.{FEWEST_LEVELS, MOST_LEVELS, MOST_ACCOUNTS, MOST_CERTS}
+use Rattle.trust_types.specs.declared.limits.TheConstants.{MOST_ACCOUNTS, MOST_CERTS}
 use Rattle.trust_types.specs.declared.records.Record.{Record}
 use Rattle.trust_types.specs.declared.records.Record.TheVariants.{Join, Seed, Cert}
 use Rattle.trust_types.specs.declared.records.Secret.TheVariants.{Absent}
@@ -49,7 +49,7 @@ caps_line line = if is_line line then caps_form (words line) else Err BadLine
 abbrev pub count_of : List ℕ → Result ℕ TextKind
 count_of word = do
   count ← ok_or (number word) BadNumber
-  _ ← fault_unless (nat_le FEWEST_LEVELS count && nat_le count MOST_LEVELS) BadCount
+  _ ← fault_unless (nat_le 2 count && nat_le count 7) BadCount
   Ok count
 
 abbrev pub begins_with_levels : List (List ℕ) → Bool

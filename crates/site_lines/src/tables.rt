@@ -66,7 +66,7 @@ fn begins_with_levels(line: &[u8]) -> bool
 ///
 /// # Errors
 /// [`TextKind::BadLine`] where the line has another form, [`TextKind::BadNumber`] where its second word is no number, and
-/// [`TextKind::BadCount`] where that is another one.
+/// [`TextKind::BadCount`] where it is a number that is out of that range.
 #[tactic(auto, unfolding(crate::specs::Site::levels_line))]
 pub fn read_levels(line: &[u8]) -> Result<u32, TextKind>
     ensures levels { result ≡ levels_line line.now }

@@ -2,7 +2,6 @@
 use Rattle.std.specs.Prelude.{ℕ, Bool, List, [], ◌∷◌, Result, Ok, Err, ◌≡◌, ◌≤◌, ◌<◌, ◌+◌, ◌-◌, ◌==◌, ◌&&◌, nat_le, nat_lt, length, filter, drop, slice_index, if◌then◌else◌}
 use Rattle.std.specs.List.{list_any, zip}
 use Rattle.trust_types.specs.declared.levels.Level.{Level}
-use Rattle.trust_types.specs.declared.limits.TheConstants.{FEWEST_LEVELS, MOST_LEVELS, MOST_ENTRIES, GREATEST_ENTRY}
 use Rattle.trust_types.specs.declared.tables.CapsFault.{CapsFault}
 use Rattle.trust_types.specs.declared.tables.CapsFault.TheVariants.{Levels, Empty, Long, Zero, Large, Rises, EndNotOne}
 use Rattle.trust_types.specs.Levels.{rank, is_grade, grades}
@@ -14,14 +13,14 @@ pub record Table : Type 0 where
 
 -- A number of levels that a table may have: 2 to 7.
 abbrev pub IsLevelCount : ℕ → Type 0
-IsLevelCount levels = (FEWEST_LEVELS ≤ levels) × (levels ≤ MOST_LEVELS)
+IsLevelCount levels = (2 ≤ levels) × (levels ≤ 7)
 
 -- The entries of a table: 1 to 16, each 1 to 2,000, none greater than the one before, and the last 1.
 pub record AreEntries (entries : List ℕ) : Type 0 where
   pub some : 1 ≤ length entries
-  pub few : length entries ≤ MOST_ENTRIES
+  pub few : length entries ≤ 16
   pub least : (i : ℕ) → i < length entries → 1 ≤ slice_index entries i
-  pub most : (i : ℕ) → i < length entries → slice_index entries i ≤ GREATEST_ENTRY
+  pub most : (i : ℕ) → i < length entries → slice_index entries i ≤ 2000
   pub falls : (i : ℕ) → i + 1 < length entries → slice_index entries (i + 1) ≤ slice_index entries i
   pub end : slice_index entries (length entries - 1) ≡ 1
 
@@ -38,9 +37,9 @@ rises entries = list_any (λ pair. nat_lt pair.0 pair.1) (zip entries (drop 1 en
 abbrev pub judged_entries : List ℕ → Result (List ℕ) CapsFault
 judged_entries entries =
     if length entries == 0 then Err Empty else
-    if nat_lt MOST_ENTRIES (length entries) then Err Long else
+    if nat_lt 16 (length entries) then Err Long else
     if list_any (λ entry. entry == 0) entries then Err Zero else
-    if list_any (λ entry. nat_lt GREATEST_ENTRY entry) entries then Err Large else
+    if list_any (λ entry. nat_lt 2000 entry) entries then Err Large else
     if rises entries then Err Rises else
     if slice_index entries (length entries - 1) == 1 then Ok entries else Err EndNotOne
 
@@ -51,7 +50,7 @@ table_with levels entries = record { levels = levels; entries = entries }
 -- The table that a number of levels and entries are, or the first fault.
 abbrev pub judged_table : ℕ → List ℕ → Result Table CapsFault
 judged_table levels entries =
-    if nat_le FEWEST_LEVELS levels && nat_le levels MOST_LEVELS
+    if nat_le 2 levels && nat_le levels 7
     then (elim (judged_entries entries) [ Ok kept ↦ Ok (table_with levels kept) | Err fault ↦ Err fault ])
     else Err Levels
 
