@@ -136,3 +136,36 @@ is_copy c = record {
   levels = level_copied c;
   certs = omega (arith, long_takers c, start_le c.r c.are c.first c.end c.ordered c.within);
 }
+
+-- the same, by what is at hand where a block is made
+pub copy_facts : (r : Rows) (named : List (List ℕ)) (first end begin stop : ℕ) (p : Part) → AreRows r → length named ≡ accounts r → first ≤ end → end ≤ first + 64 → end ≤ accounts r
+    → begin ≡ start_of r first → stop ≡ start_of r end
+    → p.names ≡ between first end named → p.seeds ≡ between first end r.seeds → AreFrom p.givers first (end - first) → AreLowered (between first (end + 1) r.starts) p.starts begin
+    → p.takers ≡ between begin stop r.takers → p.levels ≡ between begin stop r.levels → IsPart p × IsCopy r named first end p
+copy_facts r named first end begin stop p are size ordered few within begins stops names seeds givers starts takers levels =
+    let c : Copy = record {
+      r = r;
+      named = named;
+      first = first;
+      end = end;
+      p = p;
+      are = are;
+      size = size;
+      ordered = ordered;
+      few = few;
+      within = within;
+      names = names;
+      seeds = seeds;
+      givers = givers;
+      starts = subst (λ (n : ℕ). AreLowered (between first (end + 1) r.starts) p.starts n) begins starts;
+      takers = takers ∙ ap (λ (n : ℕ). between n stop r.takers) begins ∙ ap (λ (n : ℕ). between (start_of r first) n r.takers) stops;
+      levels = levels ∙ ap (λ (n : ℕ). between n stop r.levels) begins ∙ ap (λ (n : ℕ). between (start_of r first) n r.levels) stops;
+    } in
+    (copied_part c, is_copy c)
+
+-- no row begins before the first
+pub none_before : (r : Rows) (first end begin : ℕ) → AreRows r → first ≤ end → end ≤ accounts r → begin ≡ start_of r first → (k : ℕ) → k < length (between first (end + 1) r.starts) → begin ≤ slice_index (between first (end + 1) r.starts) k
+none_before r first end begin are ordered within begins k lt =
+    let long : length (between first (end + 1) r.starts) ≡ end + 1 - first = length-between r.starts first (end + 1) (omega (arith, are.starts)) in
+    let read : slice_index (between first (end + 1) r.starts) k ≡ start_of r (first + k) = get_or-between r.starts first (end + 1) k 0 (omega (arith, long)) in
+    omega (arith, read, begins, start_le r are first (first + k) (omega arith) (omega (arith, long)))

@@ -76,6 +76,27 @@ pub record Whole : Type 0 where
   pub outside : (a b : ℕ) → accounts_in r ≤ a → (row_certificates r).standing a b ≡ Observer
   pub copies : AreCopies r named (accounts_in r) ps
 
+-- the same, by what is at hand where it is frozen
+abbrev pub whole : (r : Rows) (named read : List (List ℕ)) (seeds : List ℕ) (list : List Cert) (ps : List Part) (n there : ℕ) → AreRows r → n ≡ length named → n ≤ MOST_ACCOUNTS
+    → AreApart named → IsMadeOf (row_certificates r) n seeds list → there ≡ accounts_in r → ((a b : ℕ) → there ≤ a → (row_certificates r).standing a b ≡ Observer)
+    → read ≡ named → AreCopies r read (accounts_in r) ps → Whole
+whole r named read seeds list ps n there are long few apart made counted outside same copies =
+    let all : IsMadeOf (row_certificates r) (length named) seeds list = subst (λ (k : ℕ). IsMadeOf (row_certificates r) k seeds list) long made in
+    record {
+      r = r;
+      named = named;
+      seeds = seeds;
+      list = list;
+      ps = ps;
+      are = are;
+      size = sym all.size;
+      few = omega (arith, long, few);
+      apart = apart;
+      made = all;
+      outside = λ a b past. outside a b (omega (arith, counted, past));
+      copies = subst (λ (ns : List (List ℕ)). AreCopies r ns (accounts_in r) ps) same copies;
+    }
+
 names_are : (m : Whole) → names m.ps ≡ m.named
 names_are m = m.copies.names ∙ take_all (accounts_in m.r) m.named (omega (arith, m.size))
 

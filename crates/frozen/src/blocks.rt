@@ -122,8 +122,7 @@ impl Block {
         ensures copied { IfOk result (λ b. IsCopy graph.now names.now first end b.part) }
         ensures steps { steps.new ≡ steps.old + (1 + (end - first) + (slice_index graph.now.starts end - slice_index graph.now.starts first)) }
     {
-        let begin = graph.starts()[first as usize];
-        let stop = graph.starts()[end as usize];
+        let (begin, stop) = certs_between(graph, first, end);
         steps.tick();
         count_each((end - first) as usize, steps);
         count_each((stop - begin) as usize, steps);
@@ -353,6 +352,20 @@ impl Block {
     {
         self.has_room = false;
     }
+}
+
+/// Where the certificates of a graph's accounts from one on and before another begin among all, and where they end.
+fn certs_between(graph: &CertList, first: u32, end: u32) -> (u32, u32)
+    requires rows { AreRows graph.now }
+    requires ordered { first ≤ end }
+    requires within { end ≤ accounts_in graph.now }
+    ensures begin { result.0 ≡ slice_index graph.now.starts first }
+    ensures end { result.1 ≡ slice_index graph.now.starts end }
+    ensures ordered { result.0 ≤ result.1 }
+    ensures within { result.1 ≤ length graph.now.takers }
+{
+    let starts = graph.starts();
+    (starts[first as usize], starts[end as usize])
 }
 
 /// Counts a step for each of so many items that are copied at once.
