@@ -8,6 +8,10 @@ use Rattle.trust_types.specs.Graph.{Certificates}
 use Rattle.trust_types.specs.NameLists.{AreApart}
 use Rattle.frozen.specs.Parts.{Part, PartWithRoom, no_part, count, marks_seed, degree_in, giver_in, taker_in, level_in, standing_in, IsPart}
 
+-- What a graph's blocks say, in order.
+abbrev pub Parts : Type 0
+Parts = List Part
+
 -- The part of a shared block.
 abbrev pub shared_part : {Z : Type 0} → Arc PartWithRoom Z → Part
 shared_part block = block.value.part
