@@ -12,7 +12,6 @@ ghost use Rattle.frozen.specs.inner.Copies.{IsCopy};
 use crate::rows::{insert_reserved, lower, lowered, numbers_from, raise, taker_numbers};
 use std::alloc::Global;
 use std::marker::Model;
-use std::sync::Arc;
 use std::sync::ledger::Ledger;
 use trust_types::{AccountNo, Cert, CertList, Level, Name, NoMemory, Steps};
 
@@ -75,7 +74,7 @@ impl Block {
         steps.tick();
         count_each(self.names.len(), steps);
         count_each(self.takers.len(), steps);
-        let alloc = *self.names.allocator();
+        let alloc = self.allocator();
         Ok(Block {
             names: Vec::from_slice(alloc, &self.names)?,
             seeds: Vec::from_slice(alloc, &self.seeds)?,
@@ -87,26 +86,9 @@ impl Block {
         })
     }
 
-    /// Makes it a block that others can share, and that can't be written any more. One step.
-    ///
-    /// # Errors
-    /// Where memory runs out, the block as it was.
-    pub fn share<L: Ledger>(self, steps: &mut Steps<L>) -> Result<Arc<Block>, Block>
-        ensures shared { IfOk result (λ b. b.value ≡ self) }
-        ensures back { IfErr result (λ b. b ≡ self) }
-        ensures steps { steps.new ≡ steps.old + 1 }
-    {
-        steps.tick();
-        let alloc = *self.names.allocator();
-        match Arc::new(alloc, self) {
-            Ok(shared) => Ok(shared),
-            Err(refused) => Err(refused.value),
-        }
-    }
-
     /// A block of a plain graph's accounts from one on and before another, with these names and without room. One step, and one more an
     /// account and a certificate, whatever it answers.
-    pub fn of_rows<L: Ledger>(
+    pub(crate) fn of_rows<L: Ledger>(
         alloc: Global,
         graph: &CertList,
         names: &[Name],
@@ -135,6 +117,11 @@ impl Block {
             levels: Vec::from_slice(alloc, &graph.levels()[begin as usize..stop as usize])?,
             has_room: false,
         })
+    }
+
+    /// Where its memory comes from.
+    pub(crate) fn allocator(&self) -> Global {
+        *self.names.allocator()
     }
 
     /// How many accounts it has, up to 64.

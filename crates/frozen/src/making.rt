@@ -1,6 +1,6 @@
-//! Shared blocks are made of a plain graph.
+//! Blocks are shared, those of a plain graph and any others.
 
-ghost use Rattle.std.specs.Prelude.{◌≡◌, ◌<◌, ◌≤◌, ◌+◌, ◌-◌, ◌*◌, length, slice_index, IfOk, OnOk};
+ghost use Rattle.std.specs.Prelude.{◌≡◌, ◌<◌, ◌≤◌, ◌+◌, ◌-◌, ◌*◌, length, slice_index, IfOk, IfErr, OnOk};
 ghost use Rattle.trust_types.specs.Layout.{accounts as accounts_in, AreRows};
 ghost use Rattle.frozen.specs.Sites.{shared_parts, parts_for};
 ghost use Rattle.frozen.specs.inner.Copies.{IsCopy, AreCopies};
@@ -10,6 +10,25 @@ use std::alloc::Global;
 use std::sync::Arc;
 use std::sync::ledger::Ledger;
 use trust_types::{CertGraph, CertList, Name, NoMemory, Steps};
+
+impl Block {
+    /// Makes it a block that others can share, and that can't be written any more. One step.
+    ///
+    /// # Errors
+    /// Where memory runs out, the block as it was.
+    pub fn share<L: Ledger>(self, steps: &mut Steps<L>) -> Result<Arc<Block>, Block>
+        ensures shared { IfOk result (λ b. b.value ≡ self) }
+        ensures back { IfErr result (λ b. b ≡ self) }
+        ensures steps { steps.new ≡ steps.old + 1 }
+    {
+        steps.tick();
+        let alloc = self.allocator();
+        match Arc::new(alloc, self) {
+            Ok(shared) => Ok(shared),
+            Err(refused) => Err(refused.value),
+        }
+    }
+}
 
 /// A shared block of the accounts from one on and before another. Two steps, and one more an account and a certificate.
 fn shared_rows<L: Ledger>(
