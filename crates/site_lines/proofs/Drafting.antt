@@ -1,5 +1,5 @@
 -- What a draft tells of the records so far, and that it tells it after one record more.
-use Rattle.std.proofs.Common.{bytes_eq, ◌≡◌, ◌≢◌, ℕ, zero, suc, ◌+◌, ◌<◌, ◌≤◌, Bool, true, false, ◌||◌, cond, List, [], ◌∷◌, ◌++◌, length, get_or, set, Option, Some, None, Result, Ok, subst, refl, sym, ◌∙◌, ap, arith, nat_lt, nat_eq}
+use Rattle.std.proofs.Common.{bytes_eq, ◌≡◌, ◌≢◌, ℕ, zero, suc, ◌+◌, ◌<◌, ◌≤◌, Bool, true, false, cond, List, [], ◌∷◌, ◌++◌, length, get_or, set, Option, Some, None, Result, Ok, subst, refl, sym, ◌∙◌, ap, arith, nat_lt, nat_eq}
 use Rattle.std.specs.Prelude.{position, IfSome}
 use Rattle.std.specs.List.{All}
 use Rattle.std.proofs.lemmas.List.{length_push, length-set, get_or-set_same, get_or-set_other}
@@ -10,7 +10,7 @@ use Rattle.std.proofs.lemmas.Option.{cond_some}
 use Rattle.trust_types.specs.declared.graphs.Cert.{Cert}
 use Rattle.trust_types.specs.declared.limits.TheConstants.{MOST_ACCOUNTS}
 use Rattle.trust_types.specs.declared.records.Record.{Record}
-use Rattle.trust_types.specs.Kept.{accounts, is_seed, certs_of}
+use Rattle.trust_types.specs.Kept.{accounts, certs_of}
 use Rattle.trust_types.specs.NameLists.{number_of}
 use Rattle.std.specs.Option.{ok_or}
 use Rattle.trust_types.specs.declared.levels.Level.{Level}

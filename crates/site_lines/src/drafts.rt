@@ -8,7 +8,9 @@ use crate::seeds::mark;
 use cert_log::CertLog;
 use name_index::NameIndex;
 use std::alloc::Global;
-use text_lines::{LineFault, TextKind, Words, fault_if, fault_unless, is_line, is_same, level_in, name_in};
+use text_lines::{
+    LineFault, TextKind, Words, fault_if, fault_unless, is_line, is_same, level_in, name_in,
+};
 use trust_types::{AccountNo, Caps, Cert, Name, NoMemory};
 
 /// A site while its lines are read: its accounts, seeds and certificates so far. Contracts tell of which records it is a
