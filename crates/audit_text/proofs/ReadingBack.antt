@@ -26,7 +26,7 @@ use Rattle.text_lines.specs.Reading.{reading}
 use Rattle.site_lines.specs.Site.{site_line, is_levels_line, begins_with_levels}
 use Rattle.text_lines.proofs.Joining.{words-join, is_line-join, goes_on-join, lines-ended, and_true, both, not_true}
 use Rattle.claim_lines.specs.Claim.{Claim, is_level_line, begins_with_level, level_line, has_root}
-use Rattle.site_text.specs.Site.{ProofText, has_levels_line, head_count, site_part, claim_part, claim_of, proof_of, proof}
+use Rattle.site_text.specs.Site.{ProofText, begin_with_levels, head_count, site_part, claim_part, claim_of, proof_of, proof}
 use Rattle.site_text.specs.View.{View}
 use Rattle.audit_text.specs.Canonical.{line, account_words, seed_words, cert_words, level_words, flow_words, pass_words, full_words, site_words, claim_words, IsCanonical, IsReadAs}
 use Rattle.audit_text.proofs.Spelling.{AreNames}
@@ -121,7 +121,7 @@ no_levels_line ws each other =
     rw (is_line-join ws some each, words-join ws some each) (not_true (begins_with_levels ws) plain.1)
 
 no-levels : (wss : List (List (List ℕ))) (first : List ℕ) (others : List (List ℕ)) → AreWorded wss → list_all is_other wss ≡ true → is_levels_line first ≡ false →
-    has_levels_line ([] ∷ map spaced wss ++ first ∷ others) ≡ false
+    begin_with_levels (map spaced wss ++ first ∷ others) ≡ false
 no-levels [] first others worded other none = none
 no-levels (ws ∷ wss) first others worded other none =
     no_levels_line ws (both (all_words ws) (list_all all_words wss) worded).0 (both (is_other ws) (list_all is_other wss) other).0
@@ -199,7 +199,7 @@ proof_of-parts table all wss first others k level claim head worded other is rea
     ap (λ k. take k (map spaced wss ++ first ∷ others)) at ∙ take-append_seam (map spaced wss) (first ∷ others) in
     let claim_is : claim_part (map spaced wss ++ first ∷ others) ≡ first ∷ others =
     ap (λ k. drop k (map spaced wss ++ first ∷ others)) at ∙ drop-append_seam (map spaced wss) (first ∷ others) in
-    rw (head.table, head.behind, site_is, claim_is, read (head_count all + 1), claims (head_count all + 1 + length (map spaced wss))) refl
+    rw (head.read, head.behind, site_is, claim_is, read (head_count all + 1), claims (head_count all + 1 + length (map spaced wss))) refl
 
 -- The proof that a canonical text is read as.
 abbrev written : Table → List (List ℕ) → List ℕ → List Cert → Level → Lists → ProofText

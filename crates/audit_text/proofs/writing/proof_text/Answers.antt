@@ -16,7 +16,7 @@ told c = record {
   known = c.names-names.ensures.named;
   named = subst (All IsName) c.names-names.ensures.all c.in_ok-put_accounts.ensures.named;
   apart = subst AreApart c.names-names.ensures.all c.put_accounts.ensures.apart;
-  table = subst IsTable c.caps.ensures c.entries.ensures.table;
+  table = subst IsTable c.caps-caps.ensures c.entries.ensures.table;
   grade = c.args.roster.now.grade;
   among = c.requires.among;
   order = c.args.roster.now.in_order;
@@ -26,10 +26,10 @@ told c = record {
 
 parts : (c : goal.In_ok-put_nodes-2) → Parts c.args.frozen.now c.args.roster.now.level (lists_of c.args.roster.now) c.put_nodes-2.new.text.items
 parts c =
-    parts_of c.args.frozen.now c.args.roster.now.level (lists_of c.args.roster.now) c.caps.result.now c.entries.result.now c.names-names.result.now c.deref.result.now c.deref-2.result.now
+    parts_of c.args.frozen.now c.args.roster.now.level (lists_of c.args.roster.now) c.caps-caps.result.now c.entries.result.now c.names-names.result.now c.deref.result.now c.deref-2.result.now
     c.deref-3.result.now c.in_ok-text.text.items c.put_caps.new.text.items c.put_levels.new.text.items c.put_accounts.new.text.items c.put_seeds.new.text.items c.put_certs.new.text.items
     c.put_level.new.text.items c.put_flow.new.text.items c.put_nodes.new.text.items c.put_nodes-2.new.text.items
-    c.caps.ensures c.entries.ensures.all c.names-names.ensures.all c.deref.ensures.value c.deref-2.ensures.value c.deref-3.ensures.value c.in_ok-text.ensures.items
+    c.caps-caps.ensures c.entries.ensures.all c.names-names.ensures.all c.deref.ensures.value c.deref-2.ensures.value c.deref-3.ensures.value c.in_ok-text.ensures.items
     c.in_ok-put_caps.ensures c.in_ok-put_levels.ensures c.in_ok-put_accounts.ensures.written c.in_ok-put_seeds.ensures c.in_ok-put_certs.ensures c.in_ok-put_level.ensures
     c.in_ok-put_flow.ensures.written c.in_ok-put_nodes.ensures c.in_ok-put_nodes-2.ensures
 
