@@ -180,6 +180,7 @@ impl CertGraph for Frozen {
         ensures value { result ≡ (certificates self.now).accounts }
         ensures readers { GivesEachOnce (certificates self.now) (degree self.now.parts) (given self.now.parts) }
         ensures named { length self.now.names ≡ result }
+        ensures apart { AreApart self.now.names }
         ensures outside { (a b : ℕ) → result ≤ a → (certificates self.now).standing a b ≡ Observer }
         ensures no_seeds { (a : ℕ) → result ≤ a → (certificates self.now).is_seed a ≡ false }
         ensures few { result ≤ MOST_ACCOUNTS }

@@ -19,11 +19,11 @@ loop-i-preserved c =
     rw c.in_ok-add_line.ensures
     (row_more r f a i c.loop-i.lines.items (record { from = Account a; to = c.given-to.result.to; units = c.units.result }) c.requires.readers c.requires.giver (omega arith)
     c.loop-i.invariant refl (ap (λ (d : Cert). d.to) c.given-to.ensures)
-    (c.units.ensures ∙ ap (λ (r : Parts). f (Account a) (taker r a i)) c.requires.parts))
+    (c.units.ensures ∙ ap (λ (r : Parts). f (Account a) (taker r a i)) c.requires.rows))
 
 pub returns-then-not-served : goal.returns-then-not-served
 returns-then-not-served c =
     let f : Flow = flow_in c.args.workspace.now in
     let r : Parts = c.args.frozen.now.parts in
-    let unserved : is_served (accounts r) f c.args.giver ≡ false = sym (rw c.requires.parts at c.served.ensures) ∙ c.if-not-served.true in
+    let unserved : is_served (accounts r) f c.args.giver ≡ false = sym (rw c.requires.rows at c.served.ensures) ∙ c.if-not-served.true in
     row_unserved r f c.args.giver c.args.lines.now.items c.requires.readers c.requires.goes_along c.requires.conduits c.requires.giver unserved c.requires.written
