@@ -5,4 +5,4 @@ use Rattle.site_text.proofs.Heading.{at_line-if}
 use Rattle.site_text.proofs.reading.read_second.Goals as goal
 
 pub returns-clause-within : goal.returns-clause-within
-returns-clause-within c = subst (λ r. IfOk r IsLevelCount) (sym c.at_line.ensures) (at_line-if IsLevelCount 2 c.read_levels.result c.read_levels.ensures.within)
+returns-clause-within c = subst (λ r. IfOk r IsLevelCount) (sym c.at_line.ensures) (at_line-if IsLevelCount _ c.read_levels.result c.read_levels.ensures.within)

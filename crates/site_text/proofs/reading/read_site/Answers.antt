@@ -48,7 +48,7 @@ pub overflow_sub-revision : goal.overflow_sub-revision
 overflow_sub-revision c =
     let number : c.read_site_part.new.text.number ≡ c.read_head.new.text.number + length (lines c.read_head.new.text.bytes) =
     all-read (option_map (λ l. l.now) c.in_ok-part.part.level_line) (lines c.read_head.new.text.bytes) (lines c.read_site_part.new.text.bytes) c.read_head.new.text.number c.read_site_part.new.text.number c.in_ok-part.ensures.left c.in_ok-part.ensures.number in
-    omega (arith, number, c.number-head.ensures.value, c.number.ensures.value)
+    omega (arith, number)
 
 -- all lines were read
 pub overflow_cast-revision : goal.overflow_cast-revision
@@ -57,7 +57,7 @@ overflow_cast-revision c =
     let number : c.read_site_part.new.text.number ≡ c.read_head.new.text.number + length (lines c.read_head.new.text.bytes) =
     all-read (option_map (λ l. l.now) c.in_ok-part.part.level_line) (lines c.read_head.new.text.bytes) (lines c.read_site_part.new.text.bytes) c.read_head.new.text.number c.read_site_part.new.text.number c.in_ok-part.ensures.left c.in_ok-part.ensures.number in
     let left : lines c.read_head.new.text.bytes ≡ behind_head (lines c.args.bytes.now) = c.in_ok-caps.ensures.left ∙ ap (λ bs. behind_head (lines bs)) same in
-    omega (arith, number, ap length left, behind-le (lines c.args.bytes.now), lines-le c.args.bytes.now, c.requires.few, c.number-head.ensures.value, c.number.ensures.value)
+    omega (arith, number, ap length left, behind-le (lines c.args.bytes.now), lines-le c.args.bytes.now, c.requires.few)
 
 pub freeze-requires-clause-few : goal.freeze-requires-clause-few
 freeze-requires-clause-few c =
@@ -102,7 +102,7 @@ returns-clause-read c =
           ∙ ap (λ r. r >>= with_records table) (sym (λ i. reading (site_line table) (start i + 1) [] (all i)) ∙ read),
       record {
         same = λ i. record { table = frozen.table i; names = (frozen.named ∙ parts.named) i; graph = parts_graph k c.in_ok-site.site (certificates c.in_ok-freeze.field-0.value) parts made i };
-        number = omega (arith, frozen.revision, c.number-head.ensures.value, c.number.ensures.value, number, ap length (before-never others), reading-length table (c.read_head.new.text.number + 1) [] k (before_first never others) read);
+        number = omega (arith, frozen.revision, number, ap length (before-never others), reading-length table (c.read_head.new.text.number + 1) [] k (before_first never others) read);
       },
     )
 
