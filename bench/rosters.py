@@ -1,7 +1,7 @@
 #!/usr/bin/env python3
 """`virgule rosters all` beside a C++ program over LEMON on the same site texts, and `virgule check` on an audit.
 
-    bench/rosters.py [RUNS]
+    bench/rosters.py [RUNS [BUILD ..]]
 
 The sites are those of `graphs.py`, one of each kind, with 100,000 accounts and about 2,000,000 certificates. For each kind it
 shows the user seconds of both programs, those of virgule also as a part of the other's (the aim is at most a half), and for LEMON's
@@ -9,7 +9,9 @@ also those of its three solves alone; the most memory that each one held, that o
 (the aim is at most six); and whether both accept equally many accounts at each level. Then `check` reads the audit of one of these
 sites, beside `sha256sum` on it. Nothing depends on these numbers.
 
-The programs run in turn, each so many times (3 where none is named), and the least time and the most memory are shown.
+The programs run in turn, each so many times (3 where none is named), and the least time and the most memory are shown. Other builds of
+virgule that are named by their paths run among them: behind each line stand the user seconds and the memory of each, and whether it wrote
+the same bytes.
 virgule is built first where it has to be; the other needs `g++` and LEMON's headers (Debian's `liblemon-dev`).
 """
 
@@ -37,17 +39,19 @@ def write_site(kind, text):
         subprocess.run([sys.executable, TOP / "bench" / "graphs.py", kind], stdout=out, check=True)
 
 
-def print_rosters(kind, text, other, runs):
-    """Runs both programs over a site's text, and prints a line on them."""
+def print_rosters(kind, text, other, builds, runs):
+    """Runs both programs, and other builds of ours, over a site's text, and prints a line on them."""
     size = text.stat().st_size / 2**20
-    ours, theirs = measure_in_turn([[PROGRAM, "rosters", "all"], [other]], text, runs)
+    commands = [[PROGRAM, "rosters", "all"], [other], *([build, "rosters", "all"] for build in builds)]
+    ours, theirs, *others = measure_in_turn(commands, text, runs)
     solves = float(theirs.notes.split()[1])
     found = counts(ours.output)
     agree = "agree" if found == counts(theirs.output) else "DIFFER"
     print(
         f"{kind:<10} {size:7.1f} {ours.user:9.2f} {ours.user / theirs.user:6.2f} {ours.memory:8.1f} {ours.memory / size:6.1f}"
         f" {theirs.user:9.2f} {solves:7.2f} {theirs.memory:8.1f}"
-        f"   {' '.join(number for _, number in found)} {agree}",
+        f"   {' '.join(number for _, number in found)} {agree}"
+        + "".join(f"   {run.user:.2f} {run.memory:.1f} {'the same' if run.output == ours.output else 'DIFFERS'}" for run in others),
         flush=True,
     )
 
@@ -67,6 +71,7 @@ def print_check(site, level, proof, runs):
 
 def main():
     runs = int(sys.argv[1]) if len(sys.argv) > 1 else 3
+    builds = sys.argv[2:]
     subprocess.run([TOP / "virgule", "check"], stdin=subprocess.DEVNULL, stdout=subprocess.DEVNULL, check=False)
     print(f"{'':<10} {'text':>7} {'virgule':>32} {'LEMON':>26}   accepted")
     print(
@@ -77,7 +82,7 @@ def main():
         subprocess.run(["g++", "-O2", "-o", other, TOP / "bench" / "preflow.cpp"], check=True)
         for kind in KINDS:
             write_site(kind, site)
-            print_rosters(kind, site, other, runs)
+            print_rosters(kind, site, other, builds, runs)
             if kind == AUDITED[0]:
                 print_check(site, AUDITED[1], proof, runs)
 

@@ -11,7 +11,7 @@ use Rattle.std.proofs.lemmas.List.Sums.{get_or-le-sum_by}
 use Rattle.std.proofs.lemmas.Map.Keys.{IsDistinct-from_apart}
 use Rattle.std.proofs.lemmas.Map.Made.{length-le_from_is_member}
 use Rattle.trust_types.specs.declared.levels.Level.{Level}
-use Rattle.trust_types.specs.declared.levels.Level.TheVariants.{Observer, Apprentice, Journeyer, Master}
+use Rattle.trust_types.specs.declared.levels.Level.TheVariants.{Observer, Apprentice, Journeyer, Master, Fellow, Warden, Elder}
 use Rattle.trust_types.specs.declared.accounts.Node.{Node}
 use Rattle.trust_types.specs.declared.accounts.Node.TheVariants.{Root, Account}
 use Rattle.trust_types.specs.declared.graphs.Cert.{Cert}
@@ -67,6 +67,9 @@ grade_by Observer given grade most = absurd (grade refl)
 grade_by Apprentice given grade most = λ e. let none : rank given ≡ 0 = ap rank e in omega arith
 grade_by Journeyer given grade most = λ e. let none : rank given ≡ 0 = ap rank e in omega arith
 grade_by Master given grade most = λ e. let none : rank given ≡ 0 = ap rank e in omega arith
+grade_by Fellow given grade most = λ e. let none : rank given ≡ 0 = ap rank e in omega arith
+grade_by Warden given grade most = λ e. let none : rank given ≡ 0 = ap rank e in omega arith
+grade_by Elder given grade most = λ e. let none : rank given ≡ 0 = ap rank e in omega arith
 
 -- An edge at a level is a seed's or a certificate's.
 edge_among : (g : Certificates) (level : Level) (n : ℕ) (seeds : List ℕ) (certs : List Cert) → IsGrade level → IsMadeOf g n seeds certs → (x : Node) (b : ℕ) →

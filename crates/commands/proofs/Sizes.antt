@@ -1,5 +1,5 @@
 -- How many bytes the canonical text of a proof has at most.
-use Rattle.std.proofs.Common.{ℕ, suc, ◌≡◌, ◌<◌, ◌≤◌, ◌+◌, ◌*◌, ◌^◌, List, [], ◌∷◌, ◌++◌, length, get_or, map, All, codes, decimal, sym, subst, ◌∙◌, ap, arith, inl, inr}
+use Rattle.std.proofs.Common.{ℕ, suc, Bool, true, false, if◌then◌else◌, ◌==◌, ◌≡◌, ◌<◌, ◌≤◌, ◌+◌, ◌*◌, ◌^◌, List, [], ◌∷◌, ◌++◌, length, get_or, map, All, codes, decimal, sym, subst, ◌∙◌, ap, arith, inl, inr}
 use Rattle.std.specs.List.{flat_map, join_with_byte, sum_by}
 use Rattle.std.proofs.lemmas.Bool.{cases_lt}
 use Rattle.std.proofs.lemmas.Bool.Decides.{nat_tests}
@@ -10,7 +10,7 @@ use Rattle.std.proofs.lemmas.List.Concat.{flat_map-append, length-flat_map}
 use Rattle.std.proofs.lemmas.List.Elements.{All-map}
 use Rattle.std.proofs.lemmas.List.Sums.{sum_by-le}
 use Rattle.trust_types.specs.declared.levels.Level.{Level}
-use Rattle.trust_types.specs.declared.levels.Level.TheVariants.{Observer, Apprentice, Journeyer, Master}
+use Rattle.trust_types.specs.declared.levels.Level.TheVariants.{Observer, Apprentice, Journeyer, Master, Fellow, Warden, Elder}
 use Rattle.trust_types.specs.declared.accounts.Node.{Node}
 use Rattle.trust_types.specs.declared.accounts.Node.TheVariants.{Root, Account}
 use Rattle.trust_types.specs.declared.graphs.Cert.{Cert}
@@ -19,8 +19,8 @@ use Rattle.trust_types.specs.Levels.{level_name}
 use Rattle.trust_types.specs.Names.{IsName}
 use Rattle.trust_types.specs.NodeWords.{name_of, node_name}
 use Rattle.trust_types.specs.Proven.{Lists}
-use Rattle.trust_types.specs.Tables.{IsTable}
-use Rattle.audit_text.specs.Canonical.{line, caps_words, account_words, seed_words, cert_words, level_words, flow_words, pass_words, full_words, site_words, claim_words}
+use Rattle.trust_types.specs.Tables.{Table, IsTable}
+use Rattle.audit_text.specs.Canonical.{line, caps_words, levels_words, account_words, seed_words, cert_words, level_words, flow_words, pass_words, full_words, site_words, claim_words}
 
 -- The bytes of words, each with one more.
 worded : List (List ℕ) → ℕ
@@ -67,6 +67,9 @@ level_short Observer = omega arith
 level_short Apprentice = omega arith
 level_short Journeyer = omega arith
 level_short Master = omega arith
+level_short Fellow = omega arith
+level_short Warden = omega arith
+level_short Elder = omega arith
 
 unit_short : (units : ℕ) → units < 2 ^ 32 → length (decimal units) ≤ 10
 unit_short units small = length-decimal-le 10 units (omega arith) (omega arith) (omega arith)
@@ -88,17 +91,26 @@ worded_decimals (n ∷ entries) small = omega (
   worded_decimals entries (λ k d inside. small (suc k) d (omega arith)),
 )
 
-caps_short : (table : List ℕ) → IsTable table → length (line (caps_words table)) ≤ 181
+caps_short : (table : Table) → IsTable table → length (line (caps_words table)) ≤ 181
 caps_short table is =
-    let small : All (λ entry. entry < 2 ^ 32) table = λ k d inside.
-    let most : get_or table k 0 ≤ 2000 = is.most k inside in
-    let same : get_or table k d ≡ get_or table k 0 = get_or_default_zero table k d inside in
+    let small : All (λ entry. entry < 2 ^ 32) table.entries = λ k d inside.
+    let most : get_or table.entries k 0 ≤ 2000 = is.entries.most k inside in
+    let same : get_or table.entries k d ≡ get_or table.entries k 0 = get_or_default_zero table.entries k d inside in
     omega arith in
-    omega (arith, length-line (codes "caps") (map decimal table), worded_decimals table small, is.few)
+    omega (arith, length-line (codes "caps") (map decimal table.entries), worded_decimals table.entries small, is.entries.few)
+
+count_short : (levels : ℕ) (four : Bool) → levels < 2 ^ 32 → size (if four then [] else (codes "levels" ∷ decimal levels ∷ []) ∷ []) ≤ 18
+count_short levels true few = omega arith
+count_short levels false few =
+    let words : List (List ℕ) = codes "levels" ∷ decimal levels ∷ [] in
+    omega (arith, length-append (line words) [], two_words (codes "levels") (decimal levels), unit_short levels few)
+
+levels_short : (table : Table) → IsTable table → size (levels_words table) ≤ 18
+levels_short table is = count_short table.levels (table.levels == 4) (omega (arith, is.levels.1))
 
 -- The lines of a site's text, by how many there are.
-pub site_short : (table : List ℕ) (names : List (List ℕ)) (seeds : List ℕ) (certs : List Cert) → IsTable table → All IsName names →
-    size (site_words table names seeds certs) ≤ 181 + length names * 29 + length seeds * 26 + length certs * 58
+pub site_short : (table : Table) (names : List (List ℕ)) (seeds : List ℕ) (certs : List Cert) → IsTable table → All IsName names →
+    size (site_words table names seeds certs) ≤ 199 + length names * 29 + length seeds * 26 + length certs * 58
 site_short table names seeds certs is named =
     let accounts : size (map account_words names) ≤ length names * 29 = size-map account_words 29 names (λ k d inside.
     omega (arith, two_words (codes "account") (get_or names k d), name_short (get_or names k d) (named k d inside))) in
@@ -113,9 +125,11 @@ site_short table names seeds certs is named =
       seeded,
       given,
       caps_short table is,
-      length-append (line (caps_words table)) (flat_map line (map account_words names)),
-      size-append ((caps_words table ∷ map account_words names) ++ map (seed_words names) seeds) (map (cert_words names) certs),
-      size-append (caps_words table ∷ map account_words names) (map (seed_words names) seeds),
+      levels_short table is,
+      length-append (line (caps_words table)) (flat_map line (levels_words table)),
+      size-append (((caps_words table ∷ levels_words table) ++ map account_words names) ++ map (seed_words names) seeds) (map (cert_words names) certs),
+      size-append ((caps_words table ∷ levels_words table) ++ map account_words names) (map (seed_words names) seeds),
+      size-append (caps_words table ∷ levels_words table) (map account_words names),
     )
 
 -- The lines of what is claimed of it.

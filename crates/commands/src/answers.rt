@@ -25,7 +25,7 @@ use site_text::{SiteFault, TextFault, read_proof, read_site};
 use solver::solve_one;
 use std::alloc::Global;
 use std::sync::Arc;
-use text_lines::{TextKind, at_line, fault_unless, line_count};
+use text_lines::{TextKind, fault_unless, line_count};
 use trust_types::{Caps, CertGraph, Level, NoMemory};
 
 /// The answer that a command gives to its whole input. The bytes are given up as soon as they are read, before anything is judged
@@ -103,7 +103,7 @@ fn into_site(alloc: Global, asked: Asked, bytes: Vec<u8>) -> Result<Arc<Frozen>,
     }
 }
 
-/// The site that the bytes are, whose table has a grade. It drops the bytes.
+/// The site that the bytes are, whose table has a grade. It drops the bytes. Lines are counted only for a fault.
 fn into_site_with(alloc: Global, level: Level, bytes: Vec<u8>) -> Result<Arc<Frozen>, SiteFault>
     requires grade { IsGrade level }
     requires few { vec_len bytes ≤ MOST_SITE_BYTES }
@@ -112,8 +112,13 @@ fn into_site_with(alloc: Global, level: Level, bytes: Vec<u8>) -> Result<Arc<Fro
     ensures grade { IfOk result (λ f. has_grade f.value.caps level ≡ true) }
 {
     let frozen = read_site(alloc, &bytes)?;
-    at_line(line_count(&bytes) + 1, graded(frozen.caps(), level))?;
-    Ok(frozen)
+    match graded(frozen.caps(), level) {
+        Ok(()) => Ok(frozen),
+        Err(kind) => Err(SiteFault::Text(TextFault {
+            line: line_count(&bytes) + 1,
+            kind,
+        })),
+    }
 }
 
 /// Nothing, where the table has the grade.

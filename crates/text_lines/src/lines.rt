@@ -77,7 +77,8 @@ impl<'a> Lines<'a> {
 
 /// How many lines a text has. It searches the bytes once, many at a time.
 pub fn line_count(bytes: &[u8]) -> u64
-    ensures { result ≡ length (lines bytes.now) }
+    ensures count { result ≡ length (lines bytes.now) }
+    ensures room { result < 2 ^ 63 }
 {
     let mut text = Lines::of(bytes);
     while text.next_line().is_some() {}
