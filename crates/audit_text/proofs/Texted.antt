@@ -163,7 +163,7 @@ readable f level r text told parts keeps has =
     let written : IsWritten (of_frozen f) level r = record {
       table = told.table;
       names = record { named = told.named; apart = told.apart; few = omega (arith, told.known, told.accounts) };
-      seeds = λ a is. omega (arith, told.known, seeds-within f a is);
+      seeds = λ a is. omega (arith, told.known, seeds-within f level r told a is);
       keeps = keeps;
       grade = told.grade;
       has = (both (is_grade level) (has_level f.caps level) has).1;
