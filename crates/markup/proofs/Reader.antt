@@ -20,7 +20,7 @@ use Rattle.markup.specs.Escapes.{is_plain, escape_of, escaped}
 use Rattle.markup.specs.Urls.{is_url, is_url_byte, has_scheme}
 use Rattle.markup.specs.Safe.{IsSafe, Empty, Character, Escape, PageLink, Anchor, Bare}
 use Rattle.markup.specs.Safe as safe
-use Rattle.markup.specs.Reader.{tags_from, tags, is_value_byte, is_target, IsAllowed, Start, End, Href, LineBreak}
+use Rattle.markup.specs.Reader.{tags_from, tags, is_value_byte, is_target, element_names, IsAllowed, Start, End, Href, LineBreak}
 use Rattle.markup.proofs.Each.{not-true, on-all, on-bare}
 use Rattle.markup.proofs.Tagging.{starts-whole}
 use Rattle.markup.proofs.Safety.{encode-high}
@@ -89,13 +89,13 @@ text-then text rest plain others = subst AreAllowed (sym (outside text rest plai
 start-then : (x : Element) (rest : List ℕ) → Contains bare x → AreAllowed (tags rest) → AreAllowed (tags (start_tag x ++ rest))
 unfolding start_tag
 start-then x rest is_one others =
-    tag-then (name_of x) rest (Start (name_of x) (on-bare (λ x. list_any (λ y. bytes_eq (name_of y) (name_of x)) bare) refl x is_one))
+    tag-then (name_of x) rest (Start (name_of x) (on-bare (λ x. list_any (λ name. bytes_eq name (name_of x)) element_names) refl x is_one))
     (on-bare (λ x. list_all stays_within (name_of x)) refl x is_one) others
 
 end-then : (x : Element) (rest : List ℕ) → AreAllowed (tags rest) → AreAllowed (tags (end_tag x ++ rest))
 unfolding end_tag
 end-then x rest others =
-    tag-then (codes "/" ++ name_of x) rest (End (name_of x) (on-all (λ x. list_any (λ y. bytes_eq (name_of y) (name_of x)) (A ∷ bare)) refl x))
+    tag-then (codes "/" ++ name_of x) rest (End (name_of x) (on-all (λ x. list_any (λ name. bytes_eq name (name_of x)) (codes "a" ∷ element_names)) refl x))
     (on-all (λ x. list_all stays_within (name_of x)) refl x) others
 
 -- The start tag of a link.
@@ -132,7 +132,7 @@ escape-value : (c : ℕ) → list_all is_value_byte (escape_of c) ≡ true
 unfolding escape_of
 escape-value c = value-by c (c == 38) (c == 60) (c == 62) (c == 34) refl refl refl
 
-escaped-value : (text : List ℕ) → list_all is_value_byte (escaped text) ≡ true
+pub escaped-value : (text : List ℕ) → list_all is_value_byte (escaped text) ≡ true
 escaped-value [] = refl
 escaped-value (c ∷ text) = all-append is_value_byte (escape_of c) (escaped text) (escape-value c) (escaped-value text)
 

@@ -2,8 +2,6 @@
 use Rattle.std.specs.Prelude.{ℕ, Bool, true, List, [], ◌∷◌, ◌++◌, ◌==◌, ◌&&◌, ◌||◌, ◌≡◌, not, nat_eq, codes, if◌then◌else◌, Option, Some, None}
 use Rattle.std.specs.List.{list_any, list_all, starts_with}
 use Rattle.std.specs.Str.{bytes_eq}
-use Rattle.markup.specs.declared.elements.Element.TheVariants.{A}
-use Rattle.markup.specs.Elements.{bare, name_of}
 
 -- The tags of bytes, where the reader stands behind these bytes of a tag or outside any.
 unfoldable pub tags_from : Option (List ℕ) → List ℕ → List (List ℕ)
@@ -25,9 +23,14 @@ abbrev pub is_target : List ℕ → Bool
 is_target value = starts_with nat_eq value (codes "http://") || starts_with nat_eq value (codes "https://")
     || starts_with nat_eq value (codes "/person/") || starts_with nat_eq value (codes "/project/")
 
+-- The elements that may stand without an attribute, by name.
+abbrev pub element_names : List (List ℕ)
+element_names = codes "b" ∷ codes "i" ∷ codes "em" ∷ codes "strong" ∷ codes "tt" ∷ codes "code" ∷ codes "pre" ∷ codes "p" ∷ codes "blockquote"
+    ∷ codes "ul" ∷ codes "ol" ∷ codes "li" ∷ []
+
 -- The tags that safe markup may have.
 pub data IsAllowed : List ℕ → Type 0 where
   LineBreak : IsAllowed (codes "br")
-  Start : (tag : List ℕ) → list_any (λ x. bytes_eq (name_of x) tag) bare ≡ true → IsAllowed tag
-  End : (tag : List ℕ) → list_any (λ x. bytes_eq (name_of x) tag) (A ∷ bare) ≡ true → IsAllowed (codes "/" ++ tag)
+  Start : (tag : List ℕ) → list_any (λ name. bytes_eq name tag) element_names ≡ true → IsAllowed tag
+  End : (tag : List ℕ) → list_any (λ name. bytes_eq name tag) (codes "a" ∷ element_names) ≡ true → IsAllowed (codes "/" ++ tag)
   Href : (value : List ℕ) → list_all is_value_byte value ≡ true → is_target value ≡ true → IsAllowed (codes "a href=\"" ++ value ++ codes "\"")

@@ -36,6 +36,7 @@ pub data IsSafe : Bool → ℕ → List ℕ → Type 0 where
       IsSafe in_anchor room inside →
       IsSafe in_anchor (suc room) text → IsSafe in_anchor (suc room) (start_tag x ++ inside ++ end_tag x ++ text)
 
--- Bytes that a page may hold: UTF-8, with these elements and no others, nested and closed, no more than 64 deep.
+-- Bytes that a page may hold: UTF-8, with these elements and no others, nested and closed, no more than 64 deep (a link to a page takes no
+-- room).
 abbrev pub IsSafeHtml : List ℕ → Type 0
 IsSafeHtml html = IsSafe false 64 html

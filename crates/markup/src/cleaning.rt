@@ -1,6 +1,8 @@
-ghost use Rattle.std.specs.Prelude.{◌≡◌, ◌++◌, ◌<◌, length, OnOk, IfOk};
+ghost use Rattle.std.specs.Prelude.{◌≡◌, ◌++◌, ◌<◌, true, length, OnOk, IfOk};
+ghost use Rattle.std.specs.List.{list_all};
 ghost use Rattle.markup.specs.Elements.{link, anchor_tag};
 ghost use Rattle.markup.specs.Escapes.{escaped};
+ghost use Rattle.markup.specs.Reader.{is_value_byte};
 ghost use Rattle.markup.specs.Cleaning.{end_tags, end_tags_through, below, by_rule, step_at, cleaned};
 ghost use Rattle.markup.specs.inner.Seen.{seen};
 ghost use Rattle.markup.specs.inner.Steps.{Applies, Does};
@@ -137,10 +139,12 @@ pub fn clean(alloc: Global, text: &str) -> Result<SafeHtml, NoMemory>
     Ok(SafeHtml::of(html))
 }
 
-/// The text with `&`, `<`, `>` and `"` escaped, so that it is text wherever a page has text or an attribute in quotes. No text
+/// The text with `&`, `<`, `>` and `"` escaped, so that it is text wherever a page has text or an attribute in double quotes. No text
 /// is refused. One pass. The one error is out of memory.
 pub fn escape(alloc: Global, text: &str) -> Result<SafeHtml, NoMemory>
-    ensures { IfOk result (λ html. html ≡ escaped text.now) }
+    ensures exact { IfOk result (λ html. html ≡ escaped text.now) }
+    // No double quote, `<` or `>`: it may stand in an attribute in double quotes.
+    ensures quotable { IfOk result (λ html. list_all is_value_byte html ≡ true) }
 {
     let mut html = Vec::with_capacity(alloc, text.len())?;
     write_escaped(&mut html, text.as_bytes())?;

@@ -5,8 +5,9 @@ ghost use Rattle.markup.specs.Safe.{IsSafeHtml};
 
 use std::marker::Model;
 
-/// Markup that a page may hold: UTF-8, with no elements but those of the grammar of safe markup, nested, closed and at most 64
-/// deep. It stands in a page's text; `escape`'s may stand in an attribute in quotes too. Contracts see its bytes.
+/// Markup that a page may hold: UTF-8, with no elements but those of the grammar of safe markup, nested and closed. Elements nest at
+/// most 64 deep, and a link to a page may stand in the innermost. It stands in a page's text; `escape`'s may stand in an attribute in double
+/// quotes too. Contracts see its bytes.
 #[derive(Drop)]
 pub struct SafeHtml {
     bytes: Vec<u8>,

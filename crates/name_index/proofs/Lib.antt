@@ -1,3 +1,5 @@
 mod SpreadKeys
 mod Buckets
 pub mod Indexing
+mod Listed
+mod Numbering

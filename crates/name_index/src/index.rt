@@ -133,7 +133,7 @@ impl NameIndex {
 }
 
 /// The number by which the index looks a name up: its key, spread.
-fn spread_key(name: &Name) -> u128
+pub(crate) fn spread_key(name: &Name) -> u128
     ensures value { result ≡ spread_key name.now }
     ensures name { IsName name.now }
     ensures apart { (other : List ℕ) → IsName other → (spread_key other ≡ result) ↔ (other ≡ name.now) }

@@ -1,7 +1,7 @@
 //! Numbers by key, in a sorted table that is cut into buckets.
 
 ghost use Rattle.std.specs.Prelude.{◌≡◌, ◌<◌, ◌≤◌, ◌^◌, length, map, vec_len, Contains, IfOk, MatchOption, []};
-ghost use Rattle.std.specs.List.{AllWithin};
+ghost use Rattle.std.specs.List.{AllWithin, zip};
 ghost use Rattle.std.specs.List.Sorted.{IsNonDecreasing, IsPermutation};
 ghost use Rattle.name_index.specs.inner.KeyTables.{bucket_of, entries_of, IsStart, AreBucketStarts, LacksKey};
 
@@ -75,6 +75,18 @@ impl KeyTable {
         self.keys.len()
     }
 
+    /// Its allocator.
+    pub fn allocator(&self) -> Global {
+        *self.keys.allocator()
+    }
+
+    /// The entries once more, in order of key.
+    pub fn entries(&self, alloc: Global) -> Result<Vec<Entry>, AllocError>
+        ensures { IfOk result (λ entries. entries.items ≡ self.now) }
+    {
+        entries_in(alloc, &self.keys, &self.numbers)
+    }
+
     /// The number of an entry with that key; `None` where no entry has it. It looks at the entries of one bucket, and of
     /// many there at no more than their logarithm.
     pub fn find(&self, key: u128) -> Option<u32>
@@ -91,6 +103,18 @@ impl KeyTable {
             Err(_) => None,
         }
     }
+}
+
+fn entries_in(alloc: Global, keys: &[u128], numbers: &[u32]) -> Result<Vec<Entry>, AllocError>
+    ensures { IfOk result (λ entries. entries.items ≡ map (λ pair. record { key = pair.0; number = pair.1 }) (zip keys.now numbers.now)) }
+{
+    keys.iter()
+        .zip(numbers)
+        .map(|(key, number)| Entry {
+            key: *key,
+            number: *number,
+        })
+        .collect(alloc)
 }
 
 fn keys_of(alloc: Global, entries: &[Entry]) -> Result<Vec<u128>, AllocError>

@@ -2,6 +2,9 @@
 #![tactic(auto)]
 
 mod index;
+mod key_list;
 mod key_table;
+mod numbers;
 
 pub use index::NameIndex;
+pub use numbers::NameNumbers;

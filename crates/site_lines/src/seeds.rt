@@ -5,7 +5,7 @@ ghost use Rattle.std.specs.List.Sorted.{IsStrictlyIncreasing};
 ghost use Rattle.site_lines.specs.Drafts.{flag};
 
 use std::alloc::{AllocError, Global};
-use trust_types::AccountNo;
+use trust_types::{AccountNo, MOST_ACCOUNTS};
 
 /// Sets an account's flag, and answers what it was. Past the end there is none.
 pub fn mark(flags: &mut Vec<bool>, account: AccountNo) -> bool
@@ -22,7 +22,7 @@ pub fn mark(flags: &mut Vec<bool>, account: AccountNo) -> bool
 
 /// The accounts whose flag is set, in rising order.
 pub fn marked(alloc: Global, flags: &[bool]) -> Result<Vec<AccountNo>, AllocError>
-    requires { length flags.now ≤ 100000 }
+    requires { length flags.now ≤ MOST_ACCOUNTS }
     ensures rises { IfOk result (λ accounts. IsStrictlyIncreasing accounts.items) }
     ensures just { IfOk result (λ accounts. (a : ℕ) → Contains accounts.items a ↔ IsTrue (flag flags.now a)) }
 {
