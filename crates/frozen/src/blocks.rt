@@ -49,6 +49,9 @@ impl Model for Block {
 
 impl Block {
     /// A block without accounts, and without room. One step.
+    ///
+    /// # Errors
+    /// [`NoMemory`] where there isn't enough for it, and for no other cause.
     pub fn start<L: Ledger>(alloc: Global, steps: &mut Steps<L>) -> Result<Block, NoMemory>
         ensures empty { IfOk result (λ b. b.part ≡ no_part) }
         ensures steps { steps.new ≡ steps.old + 1 }
@@ -67,6 +70,9 @@ impl Block {
 
     /// The same accounts and certificates once more, in memory of their own and without room. One step, and one more an account and a
     /// certificate, whatever it answers.
+    ///
+    /// # Errors
+    /// [`NoMemory`] where there isn't enough for the copy, and for no other cause.
     pub fn copy<L: Ledger>(&self, steps: &mut Steps<L>) -> Result<Block, NoMemory>
         ensures copied { IfOk result (λ b. b.part ≡ self.now.part) }
         ensures steps { steps.new ≡ steps.old + (1 + count self.now.part + length self.now.part.takers) }
@@ -88,6 +94,9 @@ impl Block {
 
     /// A block of a plain graph's accounts from one on and before another, with these names and without room. One step, and one more an
     /// account and a certificate, whatever it answers.
+    ///
+    /// # Errors
+    /// [`NoMemory`] where there isn't enough for it, and for no other cause.
     pub(crate) fn of_rows<L: Ledger>(
         alloc: Global,
         graph: &CertList,
@@ -202,7 +211,7 @@ impl Block {
     /// Makes room for one account and one certificate more. Any row can use it.
     ///
     /// # Errors
-    /// Where memory runs out, or the certificates would be 2^32. The block holds what it held.
+    /// [`NoMemory`] where there isn't enough, or where the certificates would be 2^32. The block holds what it held.
     pub fn reserve(&mut self, row: u32) -> Result<(), NoMemory>
         requires { row < 64 }
         ensures room { OnOk result (self.new.has_room ≡ true) }

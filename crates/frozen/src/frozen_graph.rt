@@ -44,6 +44,9 @@ impl Model for Frozen {
 impl Frozen {
     /// Freezes accounts by their names, seeds and standing certificates under a revision's number. It looks at each of them once.
     /// One step, one more an account and a certificate, and three more a block.
+    ///
+    /// # Errors
+    /// [`NoMemory`] where there isn't enough for the blocks, and for no other cause.
     pub fn of<L: Ledger>(
         alloc: Global,
         revision: u32,
@@ -69,8 +72,11 @@ impl Frozen {
         Frozen::of_blocks(alloc, revision, caps, &blocks, steps)
     }
 
-    /// Freezes what blocks hold under a revision's number. The blocks are taken over and not copied, in their order. One step, and one
-    /// more a block.
+    /// Freezes what blocks hold under a revision's number. The blocks are taken over and not copied, in their order, and stay as they are.
+    /// One step, and one more a block.
+    ///
+    /// # Errors
+    /// [`NoMemory`] where there isn't enough for the list of the blocks, and for no other cause.
     pub fn of_blocks<L: Ledger>(
         alloc: Global,
         revision: u32,

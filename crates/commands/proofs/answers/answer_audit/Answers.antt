@@ -21,7 +21,7 @@ returns-in_ok-proof_text-in-Ok c =
     let read = c.in-Ok.ensures.read in
     let f : Revision = c.in-Ok.frozen.value in
     let none : (a : ℕ) → (certificates f).accounts ≤ a → (certificates f).is_seed a ≡ false =
-    subst (λ (g : Revision). (a : ℕ) → (certificates g).accounts ≤ a → (certificates g).is_seed a ≡ false) c.deref.ensures (λ a past. c.accounts.ensures.no_seeds a (omega (arith, c.accounts.ensures.value, past))) in
+    subst (λ (g : Revision). (a : ℕ) → (certificates g).accounts ≤ a → (certificates g).is_seed a ≡ false) c.deref.ensures (λ a past. c.accounts-accounts.ensures.no_seeds a (omega (arith, c.accounts-accounts.ensures.value, past))) in
     let roster = c.in_ok-roster-in-Ok.roster in
     let r : Lists = lists_of roster in
     let text : List ℕ = c.in_ok-proof_text-in-Ok.field-0.items in
