@@ -1,9 +1,8 @@
 -- The text that was written is the canonical one, and reads back.
-use Rattle.std.proofs.Common.{◌≡◌, ◌≢◌, ℕ, ◌<◌, ◌≤◌, ◌^◌, true, false, List, [], ◌∷◌, ◌++◌, length, map, refl, ap, sym, subst, ◌∙◌, arith, inl, inr, All, IsTrue, append_assoc}
+use Rattle.std.proofs.Common.{◌≡◌, ◌≢◌, ℕ, ◌<◌, ◌≤◌, ◌^◌, true, false, ◌%◌, List, [], ◌∷◌, ◌++◌, length, map, refl, ap, sym, subst, ◌∙◌, arith, inl, inr, All, IsTrue, append_assoc}
 use Rattle.std.specs.List.{flat_map}
 use Rattle.std.proofs.lemmas.Bool.{cases_lt, false≢true}
 use Rattle.std.proofs.lemmas.Grind.{flat_map-append}
-use Rattle.std.proofs.lemmas.List.{get_or_past}
 use Rattle.std.proofs.lemmas.List.Folds.{flat_map-map}
 use Rattle.trust_types.specs.declared.limits.TheConstants.{MOST_ACCOUNTS, MOST_CERTS}
 use Rattle.trust_types.specs.declared.levels.Level.{Level}
@@ -16,7 +15,9 @@ use Rattle.trust_types.specs.declared.graphs.Cert.{Cert}
 use Rattle.trust_types.specs.Levels.{is_grade, IsGrade}
 use Rattle.trust_types.specs.Graph.{KeepsLevels}
 use Rattle.trust_types.specs.Lines.{sides_of}
-use Rattle.trust_types.specs.Layout.{degree, given}
+use Rattle.frozen.specs.Parts.{Part, taker_in, level_in}
+use Rattle.frozen.specs.Sites.{part_of, degree, given}
+use Rattle.frozen.proofs.Among.{among-found}
 use Rattle.trust_types.specs.NameLists.{AreApart}
 use Rattle.trust_types.specs.Names.{IsName}
 use Rattle.trust_types.specs.Proven.{Lists, AreInOrder}
@@ -24,7 +25,6 @@ use Rattle.trust_types.specs.Rows.{GivesEachOnce}
 use Rattle.trust_types.specs.Sum.{sum_below}
 use Rattle.trust_types.specs.Tables.{Table, IsTable, has_level, has_grade}
 use Rattle.text_lines.proofs.Joining.{both}
-use Rattle.trust_types.proofs.RowsOf.{taker_of_standing}
 use Rattle.frozen.specs.Revision.{Revision, certificates}
 use Rattle.site_text.specs.View.{of_frozen}
 use Rattle.roster_form.specs.LevelRosters.{AreAmong}
@@ -73,10 +73,11 @@ in_lines table names seeds certs level r =
 
 -- What the calls tell of the graph and the lists that are written.
 pub record AreTold (f : Revision) (level : Level) (r : Lists) : Type 0 where
-  pub readers : GivesEachOnce (certificates f) (degree f.rows) (given f.rows)
+  pub readers : GivesEachOnce (certificates f) (degree f.parts) (given f.parts)
   pub outside : (a b : ℕ) → (certificates f).accounts ≤ a → (certificates f).standing a b ≡ Observer
+  pub no_seeds : (a : ℕ) → (certificates f).accounts ≤ a → (certificates f).is_seed a ≡ false
   pub accounts : (certificates f).accounts ≤ MOST_ACCOUNTS
-  pub certs : sum_below (certificates f).accounts (degree f.rows) ≤ MOST_CERTS
+  pub certs : sum_below (certificates f).accounts (degree f.parts) ≤ MOST_CERTS
   pub known : length f.names ≡ (certificates f).accounts
   pub named : All IsName f.names
   pub apart : AreApart f.names
@@ -91,24 +92,25 @@ abbrev seeds_of : Revision → List ℕ
 seeds_of f = seeds_below (certificates f) (certificates f).accounts
 
 abbrev certs_of : Revision → List Cert
-certs_of f = certs_below (degree f.rows) (given f.rows) (certificates f).accounts
+certs_of f = certs_below (degree f.parts) (given f.parts) (certificates f).accounts
 
-seeds-within : (f : Revision) (a : ℕ) → IsTrue ((certificates f).is_seed a) → a < (certificates f).accounts
-seeds-within f a is = elim (cases_lt a (length f.rows.seeds)) [
+seeds-within : (f : Revision) (level : Level) (r : Lists) → AreTold f level r → (a : ℕ) → IsTrue ((certificates f).is_seed a) → a < (certificates f).accounts
+seeds-within f level r told a is = elim (cases_lt a (certificates f).accounts) [
   | inl below ↦ below
-  | inr past ↦ absurd (false≢true (sym (get_or_past f.rows.seeds a false (omega arith)) ∙ is))
+  | inr past ↦ absurd (false≢true (sym (told.no_seeds a (omega arith)) ∙ is))
 ]
 
 within : (f : Revision) (level : Level) (r : Lists) → AreTold f level r → (a b : ℕ) → IsGrade ((certificates f).standing a b) → (a < (certificates f).accounts) × (b < (certificates f).accounts)
 within f level r told a b grade = elim (cases_lt a (certificates f).accounts) [
   | inl below ↦
-      let found = taker_of_standing f.rows a b grade in
+      let p : Part = part_of f.parts a in
+      let found = among-found (taker_in p (a % 64)) (level_in p (a % 64)) b (degree f.parts a) grade in
       (below, subst (λ (c : ℕ). c < (certificates f).accounts) found.2 (told.readers.taker a found.0 below found.1))
   | inr past ↦ absurd (grade (told.outside a b (omega arith)))
 ]
 
-are-readers : (f : Revision) (level : Level) (r : Lists) → AreTold f level r → AreReaders (certificates f) (degree f.rows) (given f.rows)
-are-readers f level r told = record { each = told.readers; seeds = seeds-within f; within = within f level r told; few = told.certs }
+are-readers : (f : Revision) (level : Level) (r : Lists) → AreTold f level r → AreReaders (certificates f) (degree f.parts) (given f.parts)
+are-readers f level r told = record { each = told.readers; seeds = seeds-within f level r told; within = within f level r told; few = told.certs }
 
 -- The text that was written, part by part.
 pub record Parts (f : Revision) (level : Level) (r : Lists) (text : List ℕ) : Type 0 where
@@ -139,9 +141,9 @@ parts_of f level r table entries names flow pass full t0 t1 t2 t3 t4 t5 t6 t7 t8
 
 pub canonical : (f : Revision) (level : Level) (r : Lists) (text : List ℕ) → AreTold f level r → Parts f level r text → IsCanonical (of_frozen f) level r text
 canonical f level r text told parts =
-    let are : AreReaders (certificates f) (degree f.rows) (given f.rows) = are-readers f level r told in
-    let stand = can-stand (certificates f) (degree f.rows) (given f.rows) are in
-    let made = made-of (certificates f) (degree f.rows) (given f.rows) are in
+    let are : AreReaders (certificates f) (degree f.parts) (given f.parts) = are-readers f level r told in
+    let stand = can-stand (certificates f) (degree f.parts) (given f.parts) are in
+    let made = made-of (certificates f) (degree f.parts) (given f.parts) are in
     record {
       table = told.table;
       few = omega (arith, told.known, told.accounts);
@@ -161,7 +163,7 @@ readable f level r text told parts keeps has =
     let written : IsWritten (of_frozen f) level r = record {
       table = told.table;
       names = record { named = told.named; apart = told.apart; few = omega (arith, told.known, told.accounts) };
-      seeds = λ a is. omega (arith, told.known, seeds-within f a is);
+      seeds = λ a is. omega (arith, told.known, seeds-within f level r told a is);
       keeps = keeps;
       grade = told.grade;
       has = (both (is_grade level) (has_level f.caps level) has).1;

@@ -2,7 +2,7 @@
 
 ghost use Rattle.std.specs.Prelude.{◌≡◌, ◌≤◌, ◌<◌, ◌^◌, ℕ, true, ◌∷◌, [], ◌++◌, All, IfOk, OnOk, codes, decimal, flat_map, length};
 ghost use Rattle.trust_types.specs.Graph.{KeepsLevels};
-ghost use Rattle.trust_types.specs.Layout.{degree, given};
+ghost use Rattle.frozen.specs.Sites.{degree, given};
 ghost use Rattle.trust_types.specs.Lines.{place};
 ghost use Rattle.trust_types.specs.Names.{IsName};
 ghost use Rattle.trust_types.specs.NameLists.{AreApart};
@@ -17,12 +17,9 @@ ghost use Rattle.audit_text.specs.inner.Writing.{entries_words, count_words, see
 
 use frozen::Frozen;
 use itoa::Buffer;
-use name_index::NameIndex;
 use roster_form::LevelRoster;
 use std::alloc::Global;
-use trust_types::{
-    AccountNo, Caps, Cert, CertGraph, FlowLine, Level, MOST_ACCOUNTS, NoMemory, Node,
-};
+use trust_types::{AccountNo, Caps, Cert, CertGraph, FlowLine, Level, NoMemory, Node};
 
 /// About as many bytes as the line of an account or of a certificate has.
 const LINE: usize = 32;
@@ -40,19 +37,18 @@ pub fn proof_text(alloc: Global, frozen: &Frozen, roster: &LevelRoster) -> Resul
     ensures readable { KeepsLevels frozen.now.caps (certificates frozen.now) → has_grade frozen.now.caps roster.now.level ≡ true →
         IfOk result (λ text. IsReadAs (of_frozen frozen.now) roster.now.level (lists_of roster.now) text.items) }
 {
-    let names = frozen.names();
     let lines = frozen.accounts() as usize + frozen.certs() as usize;
     let mut text = Vec::with_capacity(alloc, LINE * lines)?;
     let caps = frozen.caps();
     put_caps(&mut text, caps.entries())?;
     put_levels(&mut text, caps)?;
-    put_accounts(&mut text, names)?;
+    put_accounts(&mut text, frozen)?;
     put_seeds(&mut text, frozen)?;
     put_certs(&mut text, frozen)?;
     put_level(&mut text, roster.level)?;
-    put_flow(&mut text, names, &roster.flow)?;
-    put_nodes(&mut text, b"pass", names, &roster.pass)?;
-    put_nodes(&mut text, b"full", names, &roster.full)?;
+    put_flow(&mut text, frozen, &roster.flow)?;
+    put_nodes(&mut text, b"pass", frozen, &roster.pass)?;
+    put_nodes(&mut text, b"full", frozen, &roster.full)?;
     Ok(text)
 }
 
@@ -92,15 +88,14 @@ fn put_count(text: &mut Vec<u8>, levels: u32) -> Result<(), NoMemory>
 }
 
 /// A line `account` for each name, all of which differ.
-fn put_accounts(text: &mut Vec<u8>, names: &NameIndex) -> Result<(), NoMemory>
-    requires few { length names.now ≤ MOST_ACCOUNTS }
-    ensures written { OnOk result (text.new.items ≡ text.old.items ++ lines_for account_words names.now) }
-    ensures named { OnOk result (All IsName names.now) }
-    ensures apart { AreApart names.now }
+fn put_accounts(text: &mut Vec<u8>, frozen: &Frozen) -> Result<(), NoMemory>
+    ensures written { OnOk result (text.new.items ≡ text.old.items ++ lines_for account_words frozen.now.names) }
+    ensures named { OnOk result (All IsName frozen.now.names) }
+    ensures apart { AreApart frozen.now.names }
 {
-    for account in 0..names.count() as u32 {
+    for account in 0..frozen.accounts() {
         text.extend_from_slice(b"account")?;
-        put_name(text, names, AccountNo(account))?;
+        put_name(text, frozen, AccountNo(account))?;
         text.push(b'\n')?;
     }
     Ok(())
@@ -113,25 +108,25 @@ fn put_seeds(text: &mut Vec<u8>, frozen: &Frozen) -> Result<(), NoMemory>
     for number in 0..frozen.accounts() {
         let account = AccountNo(number);
         if frozen.is_seed(account) {
-            put_seed(text, frozen.names(), account)?;
+            put_seed(text, frozen, account)?;
         }
     }
     Ok(())
 }
 
-fn put_seed(text: &mut Vec<u8>, names: &NameIndex, account: AccountNo) -> Result<(), NoMemory>
-    requires { account < length names.now }
-    ensures { OnOk result (text.new.items ≡ text.old.items ++ line (seed_words names.now account)) }
+fn put_seed(text: &mut Vec<u8>, frozen: &Frozen, account: AccountNo) -> Result<(), NoMemory>
+    requires { account < (certificates frozen.now).accounts }
+    ensures { OnOk result (text.new.items ≡ text.old.items ++ line (seed_words frozen.now.names account)) }
 {
     text.extend_from_slice(b"seed")?;
-    put_name(text, names, account)?;
+    put_name(text, frozen, account)?;
     text.push(b'\n')?;
     Ok(())
 }
 
 /// A line `cert` for each standing certificate, by giver and taker.
 fn put_certs(text: &mut Vec<u8>, frozen: &Frozen) -> Result<(), NoMemory>
-    ensures { OnOk result (text.new.items ≡ text.old.items ++ lines_for (cert_words frozen.now.names) (certs_below (degree frozen.now.rows) (given frozen.now.rows) (certificates frozen.now).accounts)) }
+    ensures { OnOk result (text.new.items ≡ text.old.items ++ lines_for (cert_words frozen.now.names) (certs_below (degree frozen.now.parts) (given frozen.now.parts) (certificates frozen.now).accounts)) }
 {
     for giver in 0..frozen.accounts() {
         put_certs_of(text, frozen, AccountNo(giver))?;
@@ -142,23 +137,23 @@ fn put_certs(text: &mut Vec<u8>, frozen: &Frozen) -> Result<(), NoMemory>
 /// The lines of the certificates that one account gives.
 fn put_certs_of(text: &mut Vec<u8>, frozen: &Frozen, giver: AccountNo) -> Result<(), NoMemory>
     requires giver { giver < (certificates frozen.now).accounts }
-    requires readers { GivesEachOnce (certificates frozen.now) (degree frozen.now.rows) (given frozen.now.rows) }
-    ensures { OnOk result (text.new.items ≡ text.old.items ++ lines_for (cert_words frozen.now.names) (first_given (given frozen.now.rows) giver (degree frozen.now.rows giver))) }
+    requires readers { GivesEachOnce (certificates frozen.now) (degree frozen.now.parts) (given frozen.now.parts) }
+    ensures { OnOk result (text.new.items ≡ text.old.items ++ lines_for (cert_words frozen.now.names) (first_given (given frozen.now.parts) giver (degree frozen.now.parts giver))) }
 {
     for i in 0..frozen.degree(giver) {
-        put_cert(text, frozen.names(), frozen.given(giver, i))?;
+        put_cert(text, frozen, frozen.given(giver, i))?;
     }
     Ok(())
 }
 
-fn put_cert(text: &mut Vec<u8>, names: &NameIndex, cert: Cert) -> Result<(), NoMemory>
-    requires giver { cert.from < length names.now }
-    requires taker { cert.to < length names.now }
-    ensures { OnOk result (text.new.items ≡ text.old.items ++ line (cert_words names.now cert)) }
+fn put_cert(text: &mut Vec<u8>, frozen: &Frozen, cert: Cert) -> Result<(), NoMemory>
+    requires giver { cert.from < (certificates frozen.now).accounts }
+    requires taker { cert.to < (certificates frozen.now).accounts }
+    ensures { OnOk result (text.new.items ≡ text.old.items ++ line (cert_words frozen.now.names cert)) }
 {
     text.extend_from_slice(b"cert")?;
-    put_name(text, names, cert.from)?;
-    put_name(text, names, cert.to)?;
+    put_name(text, frozen, cert.from)?;
+    put_name(text, frozen, cert.to)?;
     put_word(text, cert.level.name().as_bytes())?;
     text.push(b'\n')?;
     Ok(())
@@ -175,27 +170,27 @@ fn put_level(text: &mut Vec<u8>, level: Level) -> Result<(), NoMemory>
 }
 
 /// A line `flow` for each line of a flow.
-fn put_flow(text: &mut Vec<u8>, names: &NameIndex, flow: &[FlowLine]) -> Result<(), NoMemory>
-    requires givers { All (λ l. place l.from ≤ length names.now) flow.now }
-    requires takers { All (λ l. l.to < length names.now) flow.now }
-    ensures written { OnOk result (text.new.items ≡ text.old.items ++ lines_for (flow_words names.now) flow.now) }
+fn put_flow(text: &mut Vec<u8>, frozen: &Frozen, flow: &[FlowLine]) -> Result<(), NoMemory>
+    requires givers { All (λ l. place l.from ≤ (certificates frozen.now).accounts) flow.now }
+    requires takers { All (λ l. l.to < (certificates frozen.now).accounts) flow.now }
+    ensures written { OnOk result (text.new.items ≡ text.old.items ++ lines_for (flow_words frozen.now.names) flow.now) }
     ensures small { OnOk result (All (λ l. l.units < 2 ^ 32) flow.now) }
 {
     for edge in flow {
-        put_edge(text, names, edge)?;
+        put_edge(text, frozen, edge)?;
     }
     Ok(())
 }
 
-fn put_edge(text: &mut Vec<u8>, names: &NameIndex, edge: &FlowLine) -> Result<(), NoMemory>
-    requires giver { place edge.now.from ≤ length names.now }
-    requires taker { edge.now.to < length names.now }
-    ensures written { OnOk result (text.new.items ≡ text.old.items ++ line (flow_words names.now edge.now)) }
+fn put_edge(text: &mut Vec<u8>, frozen: &Frozen, edge: &FlowLine) -> Result<(), NoMemory>
+    requires giver { place edge.now.from ≤ (certificates frozen.now).accounts }
+    requires taker { edge.now.to < (certificates frozen.now).accounts }
+    ensures written { OnOk result (text.new.items ≡ text.old.items ++ line (flow_words frozen.now.names edge.now)) }
     ensures small { OnOk result (edge.now.units < 2 ^ 32) }
 {
     text.extend_from_slice(b"flow")?;
-    put_node(text, names, edge.from)?;
-    put_name(text, names, edge.to)?;
+    put_node(text, frozen, edge.from)?;
+    put_name(text, frozen, edge.to)?;
     put_number(text, edge.units)?;
     text.push(b'\n')?;
     Ok(())
@@ -205,38 +200,38 @@ fn put_edge(text: &mut Vec<u8>, names: &NameIndex, edge: &FlowLine) -> Result<()
 fn put_nodes(
     text: &mut Vec<u8>,
     keyword: &[u8],
-    names: &NameIndex,
+    frozen: &Frozen,
     nodes: &[Node],
 ) -> Result<(), NoMemory>
-    requires { All (λ x. place x ≤ length names.now) nodes.now }
-    ensures { OnOk result (text.new.items ≡ text.old.items ++ lines_for (λ x. keyword.now ∷ node_name names.now x ∷ []) nodes.now) }
+    requires { All (λ x. place x ≤ (certificates frozen.now).accounts) nodes.now }
+    ensures { OnOk result (text.new.items ≡ text.old.items ++ lines_for (λ x. keyword.now ∷ node_name frozen.now.names x ∷ []) nodes.now) }
 {
     for node in nodes {
         text.extend_from_slice(keyword)?;
-        put_node(text, names, *node)?;
+        put_node(text, frozen, *node)?;
         text.push(b'\n')?;
     }
     Ok(())
 }
 
 /// A space and the name of a node: a dash, where it is the root.
-fn put_node(text: &mut Vec<u8>, names: &NameIndex, node: Node) -> Result<(), NoMemory>
-    requires { place node ≤ length names.now }
-    ensures { OnOk result (text.new.items ≡ text.old.items ++ 32 ∷ node_name names.now node) }
+fn put_node(text: &mut Vec<u8>, frozen: &Frozen, node: Node) -> Result<(), NoMemory>
+    requires { place node ≤ (certificates frozen.now).accounts }
+    ensures { OnOk result (text.new.items ≡ text.old.items ++ 32 ∷ node_name frozen.now.names node) }
 {
     match node {
         Node::Root => put_word(text, b"-"),
-        Node::Account(account) => put_name(text, names, account),
+        Node::Account(account) => put_name(text, frozen, account),
     }
 }
 
 /// A space and the name of an account.
-fn put_name(text: &mut Vec<u8>, names: &NameIndex, account: AccountNo) -> Result<(), NoMemory>
-    requires { account < length names.now }
-    ensures written { OnOk result (text.new.items ≡ text.old.items ++ 32 ∷ name_of names.now account) }
-    ensures named { IsName (name_of names.now account) }
+fn put_name(text: &mut Vec<u8>, frozen: &Frozen, account: AccountNo) -> Result<(), NoMemory>
+    requires { account < (certificates frozen.now).accounts }
+    ensures written { OnOk result (text.new.items ≡ text.old.items ++ 32 ∷ name_of frozen.now.names account) }
+    ensures named { IsName (name_of frozen.now.names account) }
 {
-    let name = names.name(account);
+    let name = frozen.name(account);
     put_word(text, name.bytes())
 }
 

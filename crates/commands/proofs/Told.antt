@@ -9,13 +9,9 @@ use Rattle.site_text.specs.View.{of_frozen}
 use Rattle.audit_text.specs.Canonical.{IsAudit, IsCanonical, IsReadAs}
 use Rattle.commands.specs.Answers.{IsRosterLine, roster_line}
 
--- The accounts of a roster have names.
-pub named : (f : Revision) (level : Level) (r : Lists) (names : List (List ℕ)) → IsSound f level r → length names ≡ (certificates f).accounts →
-    All (λ a. a < length names) r.served
-named f level r names sound long =
-    let within : All (λ a. a < (certificates f).accounts) r.served =
-    λ k d inside. ((sound.proven.1.2.serves (get_or r.served k d)).1 (Contains-get_or r.served k d inside)).0 in
-    subst (λ n. All (λ a. a < n) r.served) (sym long) within
+-- A roster's accounts are accounts of the graph.
+pub among : (f : Revision) (level : Level) (r : Lists) → IsSound f level r → All (λ a. a < (certificates f).accounts) r.served
+among f level r sound = λ k d inside. ((sound.proven.1.2.serves (get_or r.served k d)).1 (Contains-get_or r.served k d inside)).0
 
 pub line_of : (f : Revision) (level : Level) (r : Lists) (line : List ℕ) → IsSound f level r → line ≡ roster_line f.names level r.served →
     IsRosterLine (of_frozen f) level line

@@ -153,6 +153,8 @@ fn answer_audit(alloc: Global, level: Level, bytes: Vec<u8>) -> Result<Answer, N
 {
     match into_site_with(alloc, level, bytes) {
         Ok(frozen) => {
+            // Its contract says that no seed is past the accounts.
+            let _accounts = frozen.accounts();
             let roster = solve_one(alloc, &frozen, level)?;
             Ok(Answer {
                 status: Status::Done,

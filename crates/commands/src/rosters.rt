@@ -2,6 +2,7 @@
 
 ghost use Rattle.std.specs.Prelude.{◌≡◌, ◌<◌, ◌∷◌, ◌++◌, [], All as Each, IfOk, OnOk, length, flat_map};
 ghost use Rattle.trust_types.specs.Levels.{IsGrade};
+ghost use Rattle.frozen.specs.Revision.{certificates};
 ghost use Rattle.site_text.specs.View.{of_frozen};
 ghost use Rattle.trust_types.specs.NodeWords.{name_of};
 ghost use Rattle.commands.specs.declared.command.Asked.TheVariants.{All};
@@ -11,7 +12,6 @@ ghost use Rattle.commands.specs.inner.Lines.{AddsLines};
 
 use crate::command::Asked;
 use frozen::Frozen;
-use name_index::NameIndex;
 use roster_form::{Candidate, LevelRoster};
 use solver::{solve_alone, solve_one};
 use std::alloc::Global;
@@ -36,7 +36,7 @@ fn one_line(alloc: Global, frozen: &Arc<Frozen>, level: Level) -> Result<Vec<u8>
 {
     let roster = solve_one(alloc, frozen, level)?;
     let mut text = Vec::new(alloc);
-    push_line(alloc, &mut text, frozen.names(), &roster)?;
+    push_line(alloc, &mut text, frozen, &roster)?;
     Ok(text)
 }
 
@@ -75,7 +75,7 @@ fn push_grade(
     ensures { OnOk result (AddsLines (of_frozen candidate.now.graph) (level ∷ []) text.old.items text.new.items) }
 {
     match candidate.roster(level) {
-        Some(roster) => push_line(alloc, text, candidate.frozen().names(), roster),
+        Some(roster) => push_line(alloc, text, candidate.frozen(), roster),
         None => Ok(()),
     }
 }
@@ -84,36 +84,36 @@ fn push_grade(
 fn push_line(
     alloc: Global,
     text: &mut Vec<u8>,
-    names: &NameIndex,
+    frozen: &Frozen,
     roster: &LevelRoster,
 ) -> Result<(), NoMemory>
-    requires { Each (λ a. a < length names.now) roster.now.served.items }
-    ensures { OnOk result (text.new.items ≡ text.old.items ++ roster_line names.now roster.now.level roster.now.served.items) }
+    requires { Each (λ a. a < (certificates frozen.now).accounts) roster.now.served.items }
+    ensures { OnOk result (text.new.items ≡ text.old.items ++ roster_line frozen.now.names roster.now.level roster.now.served.items) }
 {
     let front = format!(in alloc; "{} {}", roster.level.name(), roster.served.len())?;
     text.extend_from_slice(front.as_bytes())?;
-    push_names(text, names, &roster.served)?;
+    push_names(text, frozen, &roster.served)?;
     text.push(b'\n')?;
     Ok(())
 }
 
 /// Adds the names of these accounts, each behind a space.
-fn push_names(text: &mut Vec<u8>, names: &NameIndex, accounts: &[AccountNo]) -> Result<(), NoMemory>
-    requires { Each (λ a. a < length names.now) accounts.now }
-    ensures { OnOk result (text.new.items ≡ text.old.items ++ flat_map (λ a. 32 ∷ name_of names.now a) accounts.now) }
+fn push_names(text: &mut Vec<u8>, frozen: &Frozen, accounts: &[AccountNo]) -> Result<(), NoMemory>
+    requires { Each (λ a. a < (certificates frozen.now).accounts) accounts.now }
+    ensures { OnOk result (text.new.items ≡ text.old.items ++ flat_map (λ a. 32 ∷ name_of frozen.now.names a) accounts.now) }
 {
     for account in accounts {
-        push_name(text, names, *account)?;
+        push_name(text, frozen, *account)?;
     }
     Ok(())
 }
 
 /// Adds the name of an account behind a space.
-fn push_name(text: &mut Vec<u8>, names: &NameIndex, account: AccountNo) -> Result<(), NoMemory>
-    requires { account < length names.now }
-    ensures { OnOk result (text.new.items ≡ text.old.items ++ 32 ∷ name_of names.now account) }
+fn push_name(text: &mut Vec<u8>, frozen: &Frozen, account: AccountNo) -> Result<(), NoMemory>
+    requires { account < (certificates frozen.now).accounts }
+    ensures { OnOk result (text.new.items ≡ text.old.items ++ 32 ∷ name_of frozen.now.names account) }
 {
     text.push(b' ')?;
-    text.extend_from_slice(names.name(account).bytes())?;
+    text.extend_from_slice(frozen.name(account).bytes())?;
     Ok(())
 }

@@ -7,7 +7,7 @@ ghost use Rattle.trust_types.specs.declared.flows.Side.TheVariants.{Outside};
 ghost use Rattle.trust_types.specs.Levels.{IsGrade};
 ghost use Rattle.trust_types.specs.Capacity.{entry, AreCapacities, cap_by};
 ghost use Rattle.trust_types.specs.Flow.{is_served};
-ghost use Rattle.trust_types.specs.Layout.{accounts, degree, taker};
+ghost use Rattle.frozen.specs.Sites.{accounts, degree, taker};
 ghost use Rattle.frozen.specs.Revision.{certificates};
 ghost use Rattle.split_flow.specs.Split.{IsNode};
 ghost use Rattle.split_flow.specs.Solved.{IsSolved};

@@ -1,1 +1,5 @@
+pub mod Parts
+pub mod Writes
+pub mod Sites
 pub mod Revision
+pub mod inner

@@ -4,6 +4,7 @@ use Rattle.std.specs.Prelude.{◌↔◌, Contains, IsTrue}
 use Rattle.std.specs.List.Sorted.{IsStrictlyIncreasing}
 use Rattle.std.proofs.lemmas.List.Elements.{Contains-get_or}
 use Rattle.trust_types.specs.declared.records.Record.{Record}
+use Rattle.trust_types.specs.NameLists.{AreApart}
 use Rattle.trust_types.specs.Kept.{accounts, certs_of}
 use Rattle.cert_log.specs.Standing.{AreStanding}
 use Rattle.cert_log.proofs.Standing.{can_stand}
@@ -13,10 +14,11 @@ use Rattle.site_lines.specs.declared.parts.SiteParts.{SiteParts}
 use Rattle.site_lines.proofs.Marking.{inside}
 
 pub are_parts : (d : SiteDraft) (k : List Record) (parts : SiteParts) → IsSiteDraft d k
-    → parts.names ≡ d.names → IsStrictlyIncreasing parts.seeds.items
+    → parts.names.items ≡ d.names → AreApart parts.names.items → IsStrictlyIncreasing parts.seeds.items
     → ((a : ℕ) → Contains parts.seeds.items a ↔ IsTrue (flag d.seeds.items a)) → AreStanding (certs_of k) parts.certs.items → ArePartsOf k parts
-are_parts d k parts is names rises just are = record {
+are_parts d k parts is names apart rises just are = record {
   named = names ∙ is.named;
+  apart = apart;
   few = is.few;
   rises = rises;
   among = λ i e within. subst (λ n. get_or parts.seeds.items i e < n) is.flags (inside d.seeds.items _ ((just _).0 (Contains-get_or parts.seeds.items i e within)));

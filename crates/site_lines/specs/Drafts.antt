@@ -5,7 +5,7 @@ use Rattle.trust_types.specs.declared.graphs.Cert.{Cert}
 use Rattle.trust_types.specs.declared.limits.TheConstants.{MOST_ACCOUNTS}
 use Rattle.trust_types.specs.declared.records.Record.{Record}
 use Rattle.trust_types.specs.Levels.{IsGrade}
-use Rattle.trust_types.specs.NameLists.{number_of}
+use Rattle.trust_types.specs.NameLists.{number_of, AreApart}
 use Rattle.trust_types.specs.Kept.{accounts, is_seed, certs_of, standing}
 use Rattle.trust_types.specs.Certs.{CanStand}
 use Rattle.cert_log.specs.Log.{IsLog}
@@ -36,7 +36,8 @@ Adds k result new said = Reads (λ d x. IsSiteDraft d (k ++ x ∷ [])) result ne
 
 -- The parts are those of the site of these records: its names, its seeds and the certificates that stand, and no others.
 pub record ArePartsOf (k : List Record) (parts : SiteParts) : Type 0 where
-  pub named : parts.names ≡ accounts k
+  pub named : parts.names.items ≡ accounts k
+  pub apart : AreApart parts.names.items
   pub few : length (accounts k) ≤ MOST_ACCOUNTS
   pub rises : IsStrictlyIncreasing parts.seeds.items
   pub among : All (λ a. a < length (accounts k)) parts.seeds.items

@@ -6,15 +6,14 @@ ghost use Rattle.site_lines.specs.Drafts.{IsSiteDraft, ArePartsOf};
 
 use crate::drafts::SiteDraft;
 use crate::seeds::marked;
-use name_index::NameIndex;
 use std::alloc::Global;
-use trust_types::{AccountNo, Cert, NoMemory};
+use trust_types::{AccountNo, Cert, Name, NoMemory};
 
 /// The parts of a site, of which a graph can be made.
 #[derive(Drop)]
 pub struct SiteParts {
-    /// The accounts' names in order, sorted for look-ups.
-    pub names: NameIndex,
+    /// The accounts' names, by number.
+    pub names: Vec<Name>,
     /// The seeds, in rising order.
     pub seeds: Vec<AccountNo>,
     /// The certificates that stand, in rising order of giver and taker.
@@ -22,7 +21,7 @@ pub struct SiteParts {
 }
 
 impl SiteDraft {
-    /// The parts of the site. Names and certificates are sorted, and seeds gone over once.
+    /// The parts of the site. Certificates are sorted, and seeds gone over once; the index of names ends here.
     ///
     /// # Errors
     /// [`NoMemory`] where there isn't enough for them.
@@ -30,14 +29,13 @@ impl SiteDraft {
         ensures { (k : List Record) → IsSiteDraft self k → IfOk result (λ parts. ArePartsOf k parts) }
     {
         let SiteDraft {
-            mut names,
+            names,
             seeds,
             certs,
             ..
         } = self;
-        names.settle()?;
         Ok(SiteParts {
-            names,
+            names: names.into_names(),
             seeds: marked(alloc, &seeds)?,
             certs: certs.into_standing()?,
         })

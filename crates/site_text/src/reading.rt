@@ -1,11 +1,13 @@
 //! Texts of sites and of proofs, read.
 
-ghost use Rattle.std.specs.Prelude.{◌≡◌, ◌+◌, ◌≤◌, ℕ, List, [], IfOk, OnOk, IsTrue, drop, length, option_map};
+ghost use Rattle.std.specs.Prelude.{◌≡◌, ◌+◌, ◌<◌, ◌≤◌, ℕ, List, [], All, IfOk, OnOk, IsTrue, drop, length, option_map, vec_len};
 ghost use Rattle.std.specs.List.{before_first, position_or_len};
 ghost use Rattle.trust_types.specs.Levels.{IsGrade};
 ghost use Rattle.trust_types.specs.Tables.{IsLevelCount};
 ghost use Rattle.trust_types.specs.Graph.{KeepsLevels};
-ghost use Rattle.frozen.specs.Revision.{certificates};
+ghost use Rattle.trust_types.specs.NameLists.{AreApart};
+ghost use Rattle.trust_types.specs.Certs.{CanStand};
+ghost use Rattle.frozen.specs.Revision.{Freezes, certificates};
 ghost use Rattle.text_lines.specs.Words.{lines};
 ghost use Rattle.text_lines.specs.Reading.{reading, ReadsAll};
 ghost use Rattle.site_lines.specs.Site.{site_line};
@@ -26,9 +28,11 @@ use frozen::Frozen;
 use name_index::NameIndex;
 use site_lines::{SiteDraft, SiteParts, is_levels_line, read_entries, read_levels};
 use std::alloc::Global;
+use std::marker::Brand;
 use std::sync::Arc;
+use std::sync::ledger::{Blank, Ledger};
 use text_lines::{Lines, TextFault, TextKind, at_line, fault_unless};
-use trust_types::{Caps, CertList, Level, MOST_ACCOUNTS, NoMemory};
+use trust_types::{Caps, CertList, Level, MOST_ACCOUNTS, NoMemory, Steps};
 
 /// The lines of a site, read, and the `level` line that ended them, where one did.
 #[derive(Drop)]
@@ -181,7 +185,7 @@ fn proof_of(
     ensures { (k : List Record) (c : Claim) → ArePartsOf k site → AreClaimed c claim →
         IfOk result (λ p. IsProofOf (record { site = record { table = caps; records = k }; level = level; claim = c }) p) }
 {
-    let names = site.names.into_names();
+    let names = site.names;
     let graph = CertList::of(alloc, names.len() as u32, site.seeds, site.certs)?;
     Ok(Proof {
         caps,
@@ -192,6 +196,29 @@ fn proof_of(
         pass: claim.pass,
         full: claim.full,
     })
+}
+
+/// The frozen graph of these parts of a site, whose steps nobody counts.
+fn freeze<L: Ledger>(
+    alloc: Global,
+    revision: u32,
+    caps: Caps,
+    site: SiteParts,
+    blank: Blank,
+) -> Result<Arc<Frozen>, NoMemory>
+    requires few { vec_len site.names ≤ MOST_ACCOUNTS }
+    requires apart { AreApart site.names.items }
+    requires seeds { All (λ a. a < vec_len site.names) site.seeds.items }
+    requires certs { CanStand (vec_len site.names) site.certs.items }
+    requires name { blank.name ≡ L.name }
+    requires parts { blank.parts ≡ L.parts }
+    requires some { 0 < blank.parts }
+    ensures { IfOk result (λ f. Freezes f.value revision caps site.names.items site.seeds.items site.certs.items) }
+{
+    let mut steps = Steps::<L>::new(blank);
+    Frozen::of(
+        alloc, revision, caps, site.names, site.seeds, site.certs, &mut steps,
+    )
 }
 
 /// Reads a site text: the graph of just that site, which is frozen. Its revision is the number of the text's `account`, `seed`
@@ -211,13 +238,12 @@ pub fn read_site(alloc: Global, bytes: &[u8]) -> Result<Arc<Frozen>, SiteFault>
     let part = read_site_part(alloc, &mut text, &caps, false)?;
     let revision = text.number() - head;
     let site = part.draft.finish(alloc)?;
-    Ok(Frozen::of_index(
+    Ok(freeze::<Brand>(
         alloc,
         revision as u32,
         caps,
-        site.names,
-        site.seeds,
-        site.certs,
+        site,
+        Blank::new(1),
     )?)
 }
 

@@ -16,7 +16,7 @@ use Rattle.trust_types.specs.Rows.{GivesEachOnce}
 use Rattle.trust_types.specs.Flow.{Flow, IsServed}
 use Rattle.trust_types.specs.Cut.{Sides, IsCut, value, account_share, root_share}
 use Rattle.trust_types.specs.Lines.{place, same_node, flow_of, sides_of}
-use Rattle.trust_types.specs.Layout.{Rows, row_certificates, degree, given}
+use Rattle.frozen.specs.Sites.{Parts, certificates_of, degree, given}
 use Rattle.trust_types.specs.Proven.{Lists, AreInOrder, Proves, IsProven}
 use Rattle.trust_types.proofs.Sums.{sum_below-eq}
 use Rattle.trust_types.proofs.Walks.{edge_within, cert_of_edge}
@@ -26,13 +26,13 @@ use Rattle.solver.specs.inner.Writing.{GoesAlong, AreLinesOf}
 use Rattle.solver.proofs.Listing.{same_place, increasing}
 
 -- a flow that keeps to the edges goes along the rows
-pub goes_along : (r : Rows) (level : Level) (f : Flow) → GivesEachOnce (row_certificates r) (degree r) (given r) → IsGrade level →
-    ((x : Node) (b : ℕ) → 0 < f x b → HasEdge (row_certificates r) level x b) → GoesAlong r f
+pub goes_along : (r : Parts) (level : Level) (f : Flow) → GivesEachOnce (certificates_of r) (degree r) (given r) → IsGrade level →
+    ((x : Node) (b : ℕ) → 0 < f x b → HasEdge (certificates_of r) level x b) → GoesAlong r f
 goes_along r level f readers grade edges = record {
-  root = λ b some. edge_within (row_certificates r) level Root b (edges Root b some);
+  root = λ b some. edge_within (certificates_of r) level Root b (edges Root b some);
   certs = λ a b some.
       let edge = edges (Account a) b some in
-      let cert = cert_of_edge (row_certificates r) (degree r) (given r) level a b readers grade edge in
+      let cert = cert_of_edge (certificates_of r) (degree r) (given r) level a b readers grade edge in
       (edge.0, (cert.0, cert.1, cert.2));
 }
 

@@ -11,7 +11,7 @@ use Rattle.trust_types.specs.declared.flows.FlowLine.{FlowLine}
 use Rattle.trust_types.specs.Flow.{Flow, is_served, units_in, units_out}
 use Rattle.trust_types.specs.Roster.{ServesConduits}
 use Rattle.trust_types.specs.Rows.{GivesEachOnce}
-use Rattle.trust_types.specs.Layout.{Rows, accounts, row_certificates, degree, taker, given}
+use Rattle.frozen.specs.Sites.{Parts, accounts, certificates_of, degree, taker, given}
 use Rattle.trust_types.specs.Lines.{place, same_node, flow_of, is_before}
 use Rattle.trust_types.proofs.Sums.{part-le-sum_below}
 use Rattle.solver.proofs.Listing.{same_place}
@@ -126,13 +126,13 @@ written_line f b lines l is to_is units_is = elim (cases_lt 0 l.units) [
 ]
 
 -- The lines of all pairs before those of an account, and of its pairs with the takers of its first i certificates.
-pub record IsRowWritten (r : Rows) (f : Flow) (a i : ℕ) (lines : List FlowLine) : Type 0 where
+pub record IsRowWritten (r : Parts) (f : Flow) (a i : ℕ) (lines : List FlowLine) : Type 0 where
   pub b : ℕ
   pub written : IsWritten f (a + 1) b lines
   pub later : (j : ℕ) → i ≤ j → j < degree r a → b ≤ taker r a j
   pub rest : (c : ℕ) → b ≤ c → 0 < f (Account a) c → (j : ℕ) × (i ≤ j) × (j < degree r a) × (taker r a j ≡ c)
 
-pub row_none : (r : Rows) (f : Flow) (a : ℕ) (lines : List FlowLine) → GoesAlong r f → IsWritten f (a + 1) 0 lines → IsRowWritten r f a 0 lines
+pub row_none : (r : Parts) (f : Flow) (a : ℕ) (lines : List FlowLine) → GoesAlong r f → IsWritten f (a + 1) 0 lines → IsRowWritten r f a 0 lines
 row_none r f a lines goes is = record {
   b = 0;
   written = is;
@@ -143,7 +143,7 @@ row_none r f a lines goes is = record {
 nothing : (n : ℕ) → (0 < n → ⊥) → n ≡ 0
 nothing n never = elim (cases_lt 0 n) [ inl some ↦ absurd (never some) | inr none ↦ omega arith ]
 
-pub row_more : (r : Rows) (f : Flow) (a i : ℕ) (lines : List FlowLine) (l : FlowLine) → GivesEachOnce (row_certificates r) (degree r) (given r) → a < accounts r → i < degree r a →
+pub row_more : (r : Parts) (f : Flow) (a i : ℕ) (lines : List FlowLine) (l : FlowLine) → GivesEachOnce (certificates_of r) (degree r) (given r) → a < accounts r → i < degree r a →
     IsRowWritten r f a i lines → l.from ≡ Account a → l.to ≡ taker r a i → l.units ≡ f (Account a) (taker r a i) → IsRowWritten r f a (i + 1) (with_line lines l)
 row_more r f a i lines l readers account within is from_is to_is units_is =
     let t : ℕ = taker r a i in
@@ -168,11 +168,11 @@ row_more r f a i lines l readers account within is from_is to_is units_is =
           ];
     }
 
-pub row_all : (r : Rows) (f : Flow) (a : ℕ) (lines : List FlowLine) → IsRowWritten r f a (degree r a) lines → IsWritten f (a + 1 + 1) 0 lines
+pub row_all : (r : Parts) (f : Flow) (a : ℕ) (lines : List FlowLine) → IsRowWritten r f a (degree r a) lines → IsWritten f (a + 1 + 1) 0 lines
 row_all r f a lines is = written_row f (Account a) is.b lines is.written (λ d from. nothing (f (Account a) d) (λ some. let h = is.rest d from some in omega (arith, h.1, h.2)))
 
 -- an account that isn't served passes nothing on
-pub row_unserved : (r : Rows) (f : Flow) (a : ℕ) (lines : List FlowLine) → GivesEachOnce (row_certificates r) (degree r) (given r) → GoesAlong r f → ServesConduits (accounts r) f → a < accounts r →
+pub row_unserved : (r : Parts) (f : Flow) (a : ℕ) (lines : List FlowLine) → GivesEachOnce (certificates_of r) (degree r) (given r) → GoesAlong r f → ServesConduits (accounts r) f → a < accounts r →
     is_served (accounts r) f a ≡ false → IsWritten f (a + 1) 0 lines → IsWritten f (a + 1 + 1) 0 lines
 row_unserved r f a lines readers goes conduits account unserved is = written_row f (Account a) 0 lines is (λ d from. nothing (f (Account a) d) (λ some.
     let along = goes.certs a d some in
@@ -181,15 +181,15 @@ row_unserved r f a lines readers goes conduits account unserved is = written_row
     eqb-false (units_in (accounts r) f a) (units_out (accounts r) f (Account a) + 1) unserved (conduits a account out)))
 
 -- the root's row ends at the last account
-pub root_all : (r : Rows) (f : Flow) (lines : List FlowLine) → GoesAlong r f → IsWritten f 0 (accounts r) lines → IsWritten f 1 0 lines
+pub root_all : (r : Parts) (f : Flow) (lines : List FlowLine) → GoesAlong r f → IsWritten f 0 (accounts r) lines → IsWritten f 1 0 lines
 root_all r f lines goes is = written_row f Root (accounts r) lines is (λ d from. nothing (f Root d) (λ some. omega (arith, goes.root d some)))
 
-past_all : (r : Rows) (f : Flow) → GoesAlong r f → (x : Node) (d : ℕ) → accounts r + 1 ≤ place x → f x d ≡ 0
+past_all : (r : Parts) (f : Flow) → GoesAlong r f → (x : Node) (d : ℕ) → accounts r + 1 ≤ place x → f x d ≡ 0
 past_all r f goes Root d past = absurd (omega arith)
 past_all r f goes (Account a) d past = nothing (f (Account a) d) (λ some. omega (arith, (goes.certs a d some).0))
 
 -- and nothing comes after the last account's
-pub all_written : (r : Rows) (f : Flow) (lines : List FlowLine) → GoesAlong r f → IsWritten f (accounts r + 1) 0 lines → AreLinesOf f lines
+pub all_written : (r : Parts) (f : Flow) (lines : List FlowLine) → GoesAlong r f → IsWritten f (accounts r + 1) 0 lines → AreLinesOf f lines
 all_written r f lines goes is = record {
   some = is.some;
   rises = is.rises;

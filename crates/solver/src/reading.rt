@@ -4,7 +4,7 @@ ghost use Rattle.std.specs.Prelude.{◌≡◌, ◌<◌, ◌+◌, IfOk};
 ghost use Rattle.trust_types.specs.Levels.{IsGrade};
 ghost use Rattle.trust_types.specs.Flow.{IsServed};
 ghost use Rattle.trust_types.specs.Roster.{ServesConduits};
-ghost use Rattle.trust_types.specs.Layout.{accounts as account_count, degree, given};
+ghost use Rattle.frozen.specs.Sites.{accounts as account_count, degree, given};
 ghost use Rattle.trust_types.specs.Proven.{IsProven};
 ghost use Rattle.trust_types.specs.Rows.{GivesEachOnce};
 ghost use Rattle.frozen.specs.Revision.{certificates};
@@ -79,9 +79,9 @@ fn add_lines_from(
     frozen: &Frozen,
     giver: AccountNo,
 ) -> Result<(), NoMemory>
-    requires rows { rows_of workspace.now.network ≡ frozen.now.rows }
-    requires readers { GivesEachOnce (certificates frozen.now) (degree frozen.now.rows) (given frozen.now.rows) }
-    requires goes_along { GoesAlong frozen.now.rows (flow_in workspace.now) }
+    requires rows { rows_of workspace.now.network ≡ frozen.now.parts }
+    requires readers { GivesEachOnce (certificates frozen.now) (degree frozen.now.parts) (given frozen.now.parts) }
+    requires goes_along { GoesAlong frozen.now.parts (flow_in workspace.now) }
     requires conduits { ServesConduits (certificates frozen.now).accounts (flow_in workspace.now) }
     requires giver { giver < (certificates frozen.now).accounts }
     requires written { IsWritten (flow_in workspace.now) (giver + 1) 0 lines.old.items }
@@ -103,8 +103,8 @@ fn flow_lines(
     workspace: &Workspace,
     frozen: &Frozen,
 ) -> Result<Vec<FlowLine>, NoMemory>
-    requires rows { rows_of workspace.now.network ≡ frozen.now.rows }
-    requires goes_along { GoesAlong frozen.now.rows (flow_in workspace.now) }
+    requires rows { rows_of workspace.now.network ≡ frozen.now.parts }
+    requires goes_along { GoesAlong frozen.now.parts (flow_in workspace.now) }
     requires conduits { ServesConduits (certificates frozen.now).accounts (flow_in workspace.now) }
     ensures { IfOk result (λ lines. AreLinesOf (flow_in workspace.now) lines.items) }
 {
@@ -166,7 +166,7 @@ pub fn roster_of(
     level: Level,
 ) -> Result<LevelRoster, NoMemory>
     requires grade { IsGrade level }
-    requires rows { rows_of workspace.now.network ≡ frozen.now.rows }
+    requires rows { rows_of workspace.now.network ≡ frozen.now.parts }
     requires solved { IsSolved (certificates frozen.now) level frozen.now.caps (flow_in workspace.now) (sides_in workspace.now) }
     ensures level { IfOk result (λ roster. roster.level ≡ level) }
     ensures proven { IfOk result (λ roster. IsProven (certificates frozen.now) level frozen.now.caps (lists_of roster)) }

@@ -3,6 +3,7 @@
 ghost use Rattle.std.specs.Prelude.{◌≡◌, ◌<◌, IfOk, length, Some};
 ghost use Rattle.trust_types.specs.Levels.{IsGrade};
 ghost use Rattle.frozen.specs.Revision.{certificates};
+ghost use Rattle.frozen.specs.Sites.{certs};
 ghost use Rattle.split_graph.specs.Network.{Fits};
 ghost use Rattle.roster_form.specs.LevelRosters.{lists_of};
 ghost use Rattle.roster_form.specs.Candidates.{IsSound, AreSound, IsRosterFor, AreRostersFor};
@@ -19,7 +20,7 @@ use trust_types::{CertGraph, Level, NoMemory, Steps};
 
 /// A workspace with room for the graph, and for no more.
 fn workspace_for(alloc: Global, frozen: &Frozen) -> Result<Workspace, NoMemory>
-    ensures room { IfOk result (λ workspace. workspace.network.room ≡ record { accounts = (certificates frozen.now).accounts; certs = length frozen.now.rows.takers }) }
+    ensures room { IfOk result (λ workspace. workspace.network.room ≡ record { accounts = (certificates frozen.now).accounts; certs = certs frozen.now.parts }) }
     ensures fits { IfOk result (λ workspace. Fits frozen.now workspace.network.room) }
 {
     Workspace::reserve(alloc, frozen.accounts(), frozen.certs())

@@ -4,7 +4,7 @@ use Rattle.std.proofs.lemmas.List.{length-replicate}
 use Rattle.trust_types.specs.declared.accounts.Node.{Node}
 use Rattle.trust_types.specs.declared.accounts.Node.TheVariants.{Root, Account}
 use Rattle.trust_types.specs.Rows.{GivesEachOnce}
-use Rattle.trust_types.specs.Layout.{degree, taker, given}
+use Rattle.frozen.specs.Sites.{degree, taker, given}
 use Rattle.frozen.specs.Revision.{Revision, certificates}
 use Rattle.split_graph.specs.declared.split_arcs.SplitArc.{SplitArc}
 use Rattle.split_flow.specs.Split.{SplitNode, InHalf, OutHalf, Supersink, IsNode}
@@ -99,21 +99,21 @@ leads_to b u v i below at =
 -- a table of the arcs that were listed for a graph
 pub record Loading : Type 0 where
   pub graph : Revision
-  pub readers : GivesEachOnce (certificates graph) (degree graph.rows) (given graph.rows)
+  pub readers : GivesEachOnce (certificates graph) (degree graph.parts) (given graph.parts)
   pub n : ℕ
   pub arcs : List SplitArc
   pub t : Table
   pub size : n ≡ (certificates graph).accounts
   pub fits : n ≤ 100000
   pub few : length arcs < 2 ^ 30
-  pub listed : arcs ≡ split_arcs graph.rows
+  pub listed : arcs ≡ split_arcs graph.parts
   pub long : node_count n < length t.first
   pub enough : 2 * length arcs ≤ length t.rest
   pub laid : IsLaidOut (node_count n) arcs t.first
   pub placed : ArePlaced (node_count n) arcs (length arcs) t
 
 abbrev listing : Loading → Listing
-listing l = record { r = l.graph.rows; readers = l.readers }
+listing l = record { r = l.graph.parts; readers = l.readers }
 
 are_listed : (l : Loading) → AreSplitArcs (node_count l.n) l.arcs
 are_listed l =
@@ -138,15 +138,15 @@ through_each : (l : Loading) (x : Node) → IsNode (certificates l.graph).accoun
 through_each l Root is = through_place l Root (omega arith) (root_at (listing l))
 through_each l (Account a) is = through_place l (Account a) (omega arith) (through_at (listing l) a is)
 
-along_place : (l : Loading) (x : Node) (i b : ℕ) → IsTaker l.graph.rows x i b → LeadsTo (arcs_in l.n l.t) (OutHalf x) (InHalf (Account b)) (get_or l.t.first (node_number (OutHalf x)) 0 + (i + 1))
+along_place : (l : Loading) (x : Node) (i b : ℕ) → IsTaker l.graph.parts x i b → LeadsTo (arcs_in l.n l.t) (OutHalf x) (InHalf (Account b)) (get_or l.t.first (node_number (OutHalf x)) 0 + (i + 1))
 along_place l Root i b taken =
     subst (λ (k : ℕ). LeadsTo (arcs_in l.n l.t) (OutHalf Root) (InHalf (Account b)) (get_or l.t.first 2 0 + (k + 1))) taken.2
-    (leads_at l (OutHalf Root) (InHalf (Account b)) (seeds_before l.graph.rows b + 1) (omega arith) (seed_at (listing l) b taken.0 taken.1))
+    (leads_at l (OutHalf Root) (InHalf (Account b)) (seeds_before l.graph.parts b + 1) (omega arith) (seed_at (listing l) b taken.0 taken.1))
 along_place l (Account a) i b taken =
     subst (λ (k : ℕ). LeadsTo (arcs_in l.n l.t) (OutHalf (Account a)) (InHalf (Account k)) (get_or l.t.first (node_number (OutHalf (Account a))) 0 + (i + 1))) taken.2
-    (leads_at l (OutHalf (Account a)) (InHalf (Account (taker l.graph.rows a i))) (i + 1) (omega (arith, taken.0)) (cert_at (listing l) a i taken.0 taken.1))
+    (leads_at l (OutHalf (Account a)) (InHalf (Account (taker l.graph.parts a i))) (i + 1) (omega (arith, taken.0)) (cert_at (listing l) a i taken.0 taken.1))
 
-pub in_place : (l : Loading) → AreInPlace l.graph.rows (arcs_in l.n l.t)
+pub in_place : (l : Loading) → AreInPlace l.graph.parts (arcs_in l.n l.t)
 in_place l = record {
   through = through_each l;
   only =

@@ -7,7 +7,7 @@ use Rattle.trust_types.proofs.Sums.{sum_below-eq}
 use Rattle.split_flow.specs.Split.{SplitNode}
 use Rattle.split_graph.specs.Numbers.{node_number, node_count}
 use Rattle.split_graph.specs.Arcs.{Arcs, AreArcs, IsSameGraph, LeadsTo, arc_count, head_of, twin_of, tail_of, rest_of, share, between, move_one}
-use Rattle.trust_types.specs.Layout.{Rows}
+use Rattle.frozen.specs.Sites.{Parts}
 use Rattle.split_flow.specs.Moved.{IsOneMoved}
 use Rattle.split_graph.specs.Network.{AreInPlace}
 use Rattle.split_graph.proofs.Numbers.{node_number-injective, node_numbered}
@@ -186,7 +186,7 @@ other_rests a rests are long room = record {
 pub still_leads : (a : Arcs) (rests : List ℕ) (u v : SplitNode) (e : ℕ) → LeadsTo a u v e → LeadsTo (with_rests a rests) u v e
 still_leads a rests u v e leads = record { within = leads.within; tail = leads.tail; head = leads.head }
 
-pub still_in_place : (r : Rows) (a : Arcs) (rests : List ℕ) → AreInPlace r a → AreInPlace r (with_rests a rests)
+pub still_in_place : (r : Parts) (a : Arcs) (rests : List ℕ) → AreInPlace r a → AreInPlace r (with_rests a rests)
 still_in_place r a rests are = record {
   through = λ x is. still_leads a rests _ _ _ (are.through x is);
   only = are.only;

@@ -8,7 +8,7 @@ use Rattle.trust_types.specs.Sum.{sum_below}
 use Rattle.trust_types.specs.Levels.{IsGrade}
 use Rattle.trust_types.specs.Tables.{IsTable}
 use Rattle.trust_types.specs.Rows.{GivesEachOnce}
-use Rattle.trust_types.specs.Layout.{Rows, accounts, degree, taker, given, row_certificates}
+use Rattle.frozen.specs.Sites.{Parts, accounts, degree, taker, given, certificates_of, certs}
 use Rattle.frozen.specs.Revision.{Revision, certificates}
 use Rattle.split_flow.specs.Split.{InHalf, OutHalf, Supersink, source, IsNode}
 use Rattle.split_flow.specs.Moved.{RestsOf}
@@ -38,24 +38,24 @@ pub record IsSameNetwork (old new : Network) : Type 0 where
 -- There is room for the graph.
 pub record Fits (f : Revision) (room : Room) : Type 0 where
   pub accounts : (certificates f).accounts ≤ room.accounts
-  pub certs : length f.rows.takers ≤ room.certs
+  pub certs : certs f.parts ≤ room.certs
 
 -- The rows of the graph that is laid out. Until then there are none.
-abbrev pub rows_of : Network → Rows
-rows_of n = option_map_or (λ f. f.rows) n.graph (record { seeds = []; starts = []; takers = []; levels = [] })
+abbrev pub rows_of : Network → Parts
+rows_of n = option_map_or (λ f. f.parts) n.graph []
 
 -- How many seeds there are among the accounts before one.
-abbrev pub seeds_before : Rows → ℕ → ℕ
-seeds_before r b = sum_below b (λ a. if (row_certificates r).is_seed a then 1 else 0)
+abbrev pub seeds_before : Parts → ℕ → ℕ
+seeds_before r b = sum_below b (λ a. if (certificates_of r).is_seed a then 1 else 0)
 
 -- How many edges a node has at the lowest level: the root one to each seed, an account one for each certificate that it gives.
-abbrev pub given_count : Rows → Node → ℕ
+abbrev pub given_count : Parts → Node → ℕ
 given_count r Root = seeds_before r (accounts r)
 given_count r (Account a) = degree r a
 
 -- The account to which the i-th of these leads.
-abbrev pub IsTaker : Rows → Node → ℕ → ℕ → Type 0
-IsTaker r Root i b = (b < accounts r) × IsTrue ((row_certificates r).is_seed b) × (seeds_before r b ≡ i)
+abbrev pub IsTaker : Parts → Node → ℕ → ℕ → Type 0
+IsTaker r Root i b = (b < accounts r) × IsTrue ((certificates_of r).is_seed b) × (seeds_before r b ≡ i)
 IsTaker r (Account a) i b = (a < accounts r) × (i < degree r a) × (taker r a i ≡ b)
 
 -- The arc along the i-th of them: these stand in order, after the arc back through the node.
@@ -68,7 +68,7 @@ arc_to_supersink a b = first_of a (node_number (InHalf (Account b))) + 1
 
 -- Where the arcs are. The first one out of a node's first half goes through the node, and that of the root is the only one; the
 -- second one of an account goes to the supersink.
-pub record AreInPlace (r : Rows) (a : Arcs) : Type 0 where
+pub record AreInPlace (r : Parts) (a : Arcs) : Type 0 where
   pub through : (x : Node) → IsNode (accounts r) x → LeadsTo a (InHalf x) (OutHalf x) (first_of a (node_number (InHalf x)))
   pub only : first_of a (node_number (OutHalf Root)) ≡ first_of a (node_number source) + 1
   pub ends : (b : ℕ) → b < accounts r → LeadsTo a (InHalf (Account b)) Supersink (arc_to_supersink a b)
@@ -77,10 +77,10 @@ pub record AreInPlace (r : Rows) (a : Arcs) : Type 0 where
 -- The arcs of a graph are laid out, whatever rests on them.
 pub record IsLaidFor (f : Revision) (n : Network) : Type 0 where
   pub graph : n.graph ≡ Some f
-  pub readers : GivesEachOnce (certificates f) (degree f.rows) (given f.rows)
+  pub readers : GivesEachOnce (certificates f) (degree f.parts) (given f.parts)
   pub accounts : n.arcs.accounts ≡ (certificates f).accounts
   pub arcs : AreArcs (blank n.arcs)
-  pub places : AreInPlace f.rows n.arcs
+  pub places : AreInPlace f.parts n.arcs
 
 -- A level of a graph was loaded, and the arcs stand for what rests of its split graph.
 pub record StandsFor (n : Network) : Type 0 where
@@ -90,8 +90,8 @@ pub record StandsFor (n : Network) : Type 0 where
   pub at : n.level ≡ Some level
   pub grade : IsGrade level
   pub table : IsTable graph.caps
-  pub readers : GivesEachOnce (certificates graph) (degree graph.rows) (given graph.rows)
+  pub readers : GivesEachOnce (certificates graph) (degree graph.parts) (given graph.parts)
   pub arcs : AreArcs n.arcs
   pub accounts : n.arcs.accounts ≡ (certificates graph).accounts
-  pub places : AreInPlace graph.rows n.arcs
+  pub places : AreInPlace graph.parts n.arcs
   pub rests : RestsOf (certificates graph) level graph.caps (between n.arcs)

@@ -162,7 +162,7 @@ impl Residual {
         ensures place { result ≡ arc_along self.now.arcs from i }
         ensures arc { result < arc_count self.now.arcs }
         ensures along { (b : ℕ) → IsTaker (rows_of self.now) from i b → LeadsTo self.now.arcs (OutHalf from) (InHalf (Account b)) result }
-        ensures closed { (f : Revision) (level : Level) (b : ℕ) → self.now.graph ≡ Some f → self.now.level ≡ Some level → IsTaker f.rows from i b → ¬ (HasEdge (certificates f) level from b) → rest_of self.now.arcs result ≡ 0 }
+        ensures closed { (f : Revision) (level : Level) (b : ℕ) → self.now.graph ≡ Some f → self.now.level ≡ Some level → IsTaker f.parts from i b → ¬ (HasEdge (certificates f) level from b) → rest_of self.now.arcs result ≡ 0 }
     {
         self.table.first(out_half(&from)) + (i + 1)
     }

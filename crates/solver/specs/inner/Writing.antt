@@ -4,11 +4,11 @@ use Rattle.trust_types.specs.declared.accounts.Node.{Node}
 use Rattle.trust_types.specs.declared.accounts.Node.TheVariants.{Root, Account}
 use Rattle.trust_types.specs.declared.flows.FlowLine.{FlowLine}
 use Rattle.trust_types.specs.Flow.{Flow}
-use Rattle.trust_types.specs.Layout.{Rows, accounts, degree, taker}
+use Rattle.frozen.specs.Sites.{Parts, accounts, degree, taker}
 use Rattle.trust_types.specs.Lines.{place, flow_of, IsLineBefore}
 
 -- The flow sends units along the edges from the root to accounts and along the certificates of the rows, and nowhere else.
-pub record GoesAlong (r : Rows) (f : Flow) : Type 0 where
+pub record GoesAlong (r : Parts) (f : Flow) : Type 0 where
   pub root : (b : ℕ) → 0 < f Root b → b < accounts r
   pub certs : (a b : ℕ) → 0 < f (Account a) b → (a < accounts r) × ((i : ℕ) × (i < degree r a) × (taker r a i ≡ b))
 

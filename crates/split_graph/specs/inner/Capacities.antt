@@ -3,7 +3,7 @@ use Rattle.std.specs.Prelude.{ℕ, zero, suc, ◌<◌, ◌+◌, ◌-◌, nat_le,
 use Rattle.trust_types.specs.declared.levels.Level.{Level}
 use Rattle.trust_types.specs.declared.accounts.Node.TheVariants.{Root, Account}
 use Rattle.trust_types.specs.Levels.{rank}
-use Rattle.trust_types.specs.Layout.{Rows, accounts, degree, level_given, row_certificates}
+use Rattle.frozen.specs.Sites.{Parts, accounts, degree, level_given, certificates_of}
 use Rattle.split_flow.specs.Split.{InHalf, OutHalf, source, unbounded}
 use Rattle.split_graph.specs.Numbers.{node_number}
 use Rattle.split_graph.specs.Network.{seeds_before}
@@ -22,26 +22,26 @@ abbrev pub write_own : List ℕ → ℕ → ℕ → List ℕ → List ℕ
 write_own first a capacity rests =
     slice_set (slice_set rests (slice_index first (node_number (InHalf (Account a)))) (capacity - 1)) (slice_index first (node_number (InHalf (Account a))) + 1) 1
 
-abbrev pub write_cert : Rows → Level → List ℕ → ℕ → ℕ → List ℕ → List ℕ
+abbrev pub write_cert : Parts → Level → List ℕ → ℕ → ℕ → List ℕ → List ℕ
 write_cert r level first a i rests = slice_set rests (slice_index first (node_number (OutHalf (Account a))) + (i + 1)) (cert_capacity level (level_given r a i))
 
 -- An account's own arcs, and those of the certificates that it gives.
-abbrev pub write_account : Rows → Level → List ℕ → List ℕ → ℕ → List ℕ → List ℕ
+abbrev pub write_account : Parts → Level → List ℕ → List ℕ → ℕ → List ℕ → List ℕ
 write_account r level caps first a rests = written_below (degree r a) (write_cert r level first a) (write_own first a (slice_index caps a) rests)
 
-abbrev pub write_seed : Rows → List ℕ → ℕ → List ℕ → List ℕ
+abbrev pub write_seed : Parts → List ℕ → ℕ → List ℕ → List ℕ
 write_seed r first b rests =
-    if (row_certificates r).is_seed b then slice_set rests (slice_index first (node_number (OutHalf Root)) + (seeds_before r b + 1)) unbounded else rests
+    if (certificates_of r).is_seed b then slice_set rests (slice_index first (node_number (OutHalf Root)) + (seeds_before r b + 1)) unbounded else rests
 
 -- The arc through the root, those to the seeds, and those of the accounts, among so many places.
-abbrev pub write_capacities : Rows → Level → ℕ → List ℕ → List ℕ → ℕ → List ℕ
+abbrev pub write_capacities : Parts → Level → ℕ → List ℕ → List ℕ → ℕ → List ℕ
 write_capacities r level root caps first count =
     written_below (accounts r) (write_account r level caps first)
     (written_below (accounts r) (write_seed r first) (slice_set (replicate count 0) (slice_index first (node_number source)) (root - 1)))
 
 -- The arcs' places are among so many.
-pub record AreWithin (r : Rows) (first : List ℕ) (count : ℕ) : Type 0 where
+pub record AreWithin (r : Parts) (first : List ℕ) (count : ℕ) : Type 0 where
   pub root : slice_index first (node_number source) < count
   pub own : (a : ℕ) → a < accounts r → slice_index first (node_number (InHalf (Account a))) + 1 < count
-  pub seeds : (b : ℕ) → b < accounts r → IsTrue ((row_certificates r).is_seed b) → slice_index first (node_number (OutHalf Root)) + (seeds_before r b + 1) < count
+  pub seeds : (b : ℕ) → b < accounts r → IsTrue ((certificates_of r).is_seed b) → slice_index first (node_number (OutHalf Root)) + (seeds_before r b + 1) < count
   pub certs : (a i : ℕ) → a < accounts r → i < degree r a → slice_index first (node_number (OutHalf (Account a))) + (i + 1) < count

@@ -2,7 +2,7 @@
 use Rattle.std.specs.Prelude.{ℕ, zero, suc, if◌then◌else◌, List, [], ◌∷◌, ◌++◌}
 use Rattle.trust_types.specs.declared.accounts.Node.{Node}
 use Rattle.trust_types.specs.declared.accounts.Node.TheVariants.{Root, Account}
-use Rattle.trust_types.specs.Layout.{Rows, accounts, degree, taker, row_certificates}
+use Rattle.frozen.specs.Sites.{Parts, accounts, degree, taker, certificates_of}
 use Rattle.split_graph.specs.declared.split_arcs.SplitArc.{SplitArc}
 use Rattle.split_flow.specs.Split.{SplitNode, InHalf, OutHalf, Supersink}
 use Rattle.split_graph.specs.Numbers.{node_number}
@@ -31,17 +31,17 @@ own_arcs a = through_arc (Account a) ∷ end_arc a ∷ []
 abbrev pub edge_arc : Node → ℕ → SplitArc
 edge_arc x b = arc_from (OutHalf x) (InHalf (Account b))
 
-abbrev pub seed_arcs : Rows → ℕ → List SplitArc
-seed_arcs r b = if (row_certificates r).is_seed b then edge_arc Root b ∷ [] else []
+abbrev pub seed_arcs : Parts → ℕ → List SplitArc
+seed_arcs r b = if (certificates_of r).is_seed b then edge_arc Root b ∷ [] else []
 
-abbrev pub cert_arcs : Rows → ℕ → ℕ → List SplitArc
+abbrev pub cert_arcs : Parts → ℕ → ℕ → List SplitArc
 cert_arcs r a i = edge_arc (Account a) (taker r a i) ∷ []
 
-abbrev pub row_arcs : Rows → ℕ → List SplitArc
+abbrev pub row_arcs : Parts → ℕ → List SplitArc
 row_arcs r a = joined_below (degree r a) (cert_arcs r a)
 
 -- The arcs through the nodes and to the supersink, those to the seeds, and those of the certificates of all levels.
-abbrev pub split_arcs : Rows → List SplitArc
+abbrev pub split_arcs : Parts → List SplitArc
 split_arcs r =
     (((through_arc Root ∷ []) ++ joined_below (accounts r) own_arcs)
     ++ joined_below (accounts r) (seed_arcs r))

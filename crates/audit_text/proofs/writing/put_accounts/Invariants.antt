@@ -7,6 +7,6 @@ use Rattle.audit_text.proofs.writing.put_accounts.Given as goal
 
 abbrev pub invariant-loop-account : goal.invariant-loop-account
 invariant-loop-account l = record {
-  written : l.text.items ≡ l.initial.text.items ++ lines_for account_words (take l.account l.names);
-  named : (k : ℕ) → k < l.account → IsName (name_of l.names k);
+  written : l.text.items ≡ l.initial.text.items ++ lines_for account_words (take l.account l.frozen.names);
+  named : (k : ℕ) → k < l.account → IsName (name_of l.frozen.names k);
 }

@@ -9,8 +9,8 @@ pub loop-edge-preserved : goal.loop-edge-preserved
 loop-edge-preserved c = record {
   written =
       c.in_ok-put_edge.ensures.written
-      ∙ ap (λ text. text ++ line (flow_words c.args.names.now c.edge-item.result)) c.loop-edge.invariant.written
-      ∙ more_taken (flow_words c.args.names.now) c.args.text.now.items c.args.flow.now c.loop-edge.edge-index c.edge-item.result c.loop-edge-test.true (sym c.edge-item.is);
+      ∙ ap (λ text. text ++ line (flow_words c.args.frozen.now.names c.edge-item.result)) c.loop-edge.invariant.written
+      ∙ more_taken (flow_words c.args.frozen.now.names) c.args.text.now.items c.args.flow.now c.loop-edge.edge-index c.edge-item.result c.loop-edge-test.true (sym c.edge-item.is);
   small = All-more (λ (edge : FlowLine). edge.units < 2 ^ 32) c.args.flow.now c.loop-edge.edge-index c.edge-item.result c.loop-edge-test.true c.loop-edge.invariant.small
       (subst (λ (edge : FlowLine). edge.units < 2 ^ 32) c.edge-item.is c.in_ok-put_edge.ensures.small);
 }

@@ -4,4 +4,4 @@ use Rattle.commands.proofs.rosters.push_names.Given as goal
 
 abbrev pub invariant-loop-account : goal.invariant-loop-account
 invariant-loop-account l =
-    l.text.items ≡ l.initial.text.items ++ flat_map (λ a. 32 ∷ name_of l.names a) (take l.account-index l.accounts)
+    l.text.items ≡ l.initial.text.items ++ flat_map (λ a. 32 ∷ name_of l.frozen.names a) (take l.account-index l.accounts)

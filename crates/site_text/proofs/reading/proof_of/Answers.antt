@@ -10,10 +10,10 @@ use Rattle.site_text.proofs.reading.proof_of.Goals as goal
 
 pub returns : goal.returns
 returns c = λ k claim parts claimed.
-    let named = c.into_names-names.ensures.names ∙ parts.named in
-    let long : vec_len c.into_names-names.result ≡ length (accounts k) = search rules ∙ ap length named in
+    let named = parts.named in
+    let long : vec_len c.args.site.names ≡ length (accounts k) = search rules ∙ ap length named in
     let made : IsMadeOf (row_certificates c.in_ok-graph.graph) (length (accounts k)) c.args.site.seeds.items c.args.site.certs.items =
-    subst (λ n. IsMadeOf (row_certificates c.in_ok-graph.graph) n c.args.site.seeds.items c.args.site.certs.items) (c.len.ensures ∙ long) c.in_ok-graph.ensures in
+    subst (λ n. IsMadeOf (row_certificates c.in_ok-graph.graph) n c.args.site.seeds.items c.args.site.certs.items) (c.len.ensures ∙ long) c.in_ok-graph.ensures.made in
     record {
       same = λ i. record { table = c.args.caps; names = named i; graph = parts_graph k c.args.site (row_certificates c.in_ok-graph.graph) parts made i };
       level = refl;
@@ -25,11 +25,11 @@ returns c = λ k claim parts claimed.
 pub invariant_of-result : goal.invariant_of-result
 invariant_of-result c =
     let parts = c.requires.parts in
-    let long : vec_len c.into_names-names.result ≡ length (accounts parts.0) = search rules ∙ ap length (c.into_names-names.ensures.names ∙ parts.2.named) in
-    let size : accounts_in c.in_ok-graph.graph ≡ length (accounts parts.0) = c.in_ok-graph.ensures.size ∙ c.len.ensures ∙ long in
+    let long : vec_len c.args.site.names ≡ length (accounts parts.0) = search rules ∙ ap length parts.2.named in
+    let size : accounts_in c.in_ok-graph.graph ≡ length (accounts parts.0) = c.in_ok-graph.ensures.made.size ∙ c.len.ensures ∙ long in
     record {
       named = long ∙ sym size;
-      names_differ = subst AreApart (sym c.into_names-names.ensures.names) c.into_names-names.ensures.apart;
+      names_differ = parts.2.apart;
       grade = c.requires.grade;
       lines = subst (λ n. All (IsLineAmong n) c.args.claim.flow.items) (sym size) parts.4.lines;
       lines_rise = parts.3.rises;

@@ -1,4 +1,4 @@
-use Rattle.std.proofs.Common.{ℕ, ◌≡◌, ◌+◌, ◌<◌, [], List, Ok, Err, length, All, subst, ap, sym, ◌∙◌, arith}
+use Rattle.std.proofs.Common.{ℕ, ◌≡◌, ◌+◌, ◌<◌, [], List, Ok, Err, length, All, vec_len, rules, ◌≤◌, subst, ap, sym, ◌∙◌, arith}
 use Rattle.std.specs.Prelude.{IfSome, option_map}
 use Rattle.std.specs.List.{before_first}
 use Rattle.trust_types.specs.declared.records.Record.{Record}
@@ -59,15 +59,26 @@ overflow_cast-revision c =
     let left : lines c.read_head.new.text.bytes ≡ behind_head (lines c.args.bytes.now) = c.in_ok-caps.ensures.left ∙ ap (λ bs. behind_head (lines bs)) same in
     omega (arith, number, ap length left, behind-le (lines c.args.bytes.now), lines-le c.args.bytes.now, c.requires.few)
 
-pub of_index-requires-clause-seeds : goal.of_index-requires-clause-seeds
-of_index-requires-clause-seeds c =
+pub freeze-requires-clause-few : goal.freeze-requires-clause-few
+freeze-requires-clause-few c =
     let parts = c.in_ok-site.ensures c.in_ok-part.ensures.read.0 c.in_ok-part.ensures.read.2 in
-    subst (λ n. All (λ a. a < n) c.in_ok-site.site.seeds.items) (sym (ap length parts.named)) parts.among
+    let n : length c.in_ok-site.site.names.items ≡ vec_len c.in_ok-site.site.names = search rules in
+    omega (arith, n, ap length parts.named, parts.few)
 
-pub of_index-requires-clause-certs : goal.of_index-requires-clause-certs
-of_index-requires-clause-certs c =
+pub freeze-requires-clause-apart : goal.freeze-requires-clause-apart
+freeze-requires-clause-apart c = (c.in_ok-site.ensures c.in_ok-part.ensures.read.0 c.in_ok-part.ensures.read.2).apart
+
+pub freeze-requires-clause-seeds : goal.freeze-requires-clause-seeds
+freeze-requires-clause-seeds c =
     let parts = c.in_ok-site.ensures c.in_ok-part.ensures.read.0 c.in_ok-part.ensures.read.2 in
-    subst (λ n. CanStand n c.in_ok-site.site.certs.items) (sym (ap length parts.named)) parts.stand
+    let n : length c.in_ok-site.site.names.items ≡ vec_len c.in_ok-site.site.names = search rules in
+    subst (λ n. All (λ a. a < n) c.in_ok-site.site.seeds.items) (sym (ap length parts.named) ∙ n) parts.among
+
+pub freeze-requires-clause-certs : goal.freeze-requires-clause-certs
+freeze-requires-clause-certs c =
+    let parts = c.in_ok-site.ensures c.in_ok-part.ensures.read.0 c.in_ok-part.ensures.read.2 in
+    let n : length c.in_ok-site.site.names.items ≡ vec_len c.in_ok-site.site.names = search rules in
+    subst (λ n. CanStand n c.in_ok-site.site.certs.items) (sym (ap length parts.named) ∙ n) parts.stand
 
 pub returns-clause-read : goal.returns-clause-read
 unfolding site_of
@@ -83,14 +94,14 @@ returns-clause-read c =
     let number : c.read_site_part.new.text.number ≡ c.read_head.new.text.number + length (lines c.read_head.new.text.bytes) =
     all-read (option_map (λ l. l.now) c.in_ok-part.part.level_line) (lines c.read_head.new.text.bytes) (lines c.read_site_part.new.text.bytes) c.read_head.new.text.number c.read_site_part.new.text.number c.in_ok-part.ensures.left c.in_ok-part.ensures.number in
     let parts = c.in_ok-site.ensures k c.in_ok-part.ensures.read.2 in
-    let frozen = c.in_ok-of_index.ensures in
-    let made : IsMadeOf (certificates c.in_ok-of_index.field-0.value) (length (accounts k)) c.in_ok-site.site.seeds.items c.in_ok-site.site.certs.items =
-    subst (λ n. IsMadeOf (certificates c.in_ok-of_index.field-0.value) n c.in_ok-site.site.seeds.items c.in_ok-site.site.certs.items) (ap length parts.named) frozen.graph in (
+    let frozen = c.in_ok-freeze.ensures in
+    let made : IsMadeOf (certificates c.in_ok-freeze.field-0.value) (length (accounts k)) c.in_ok-site.site.seeds.items c.in_ok-site.site.certs.items =
+    subst (λ n. IsMadeOf (certificates c.in_ok-freeze.field-0.value) n c.in_ok-site.site.seeds.items c.in_ok-site.site.certs.items) (ap length parts.named) frozen.graph in (
       record { table = table; records = k },
       ap (λ r. r >>= with_table ls) (ap (λ bs. table_of (lines bs)) (sym same) ∙ sym c.in_ok-caps.ensures.table)
           ∙ ap (λ r. r >>= with_records table) (sym (λ i. reading (site_line table) (start i + 1) [] (all i)) ∙ read),
       record {
-        same = λ i. record { table = frozen.table i; names = (frozen.named ∙ parts.named) i; graph = parts_graph k c.in_ok-site.site (certificates c.in_ok-of_index.field-0.value) parts made i };
+        same = λ i. record { table = frozen.table i; names = (frozen.named ∙ parts.named) i; graph = parts_graph k c.in_ok-site.site (certificates c.in_ok-freeze.field-0.value) parts made i };
         number = omega (arith, frozen.revision, number, ap length (before-never others), reading-length table (c.read_head.new.text.number + 1) [] k (before_first never others) read);
       },
     )
@@ -100,8 +111,8 @@ returns-clause-levels c =
     let k : List Record = c.in_ok-part.ensures.read.0 in
     let table : Table = c.in_ok-caps.caps in
     let parts = c.in_ok-site.ensures k c.in_ok-part.ensures.read.2 in
-    let frozen = c.in_ok-of_index.ensures in
-    let made : IsMadeOf (certificates c.in_ok-of_index.field-0.value) (length (accounts k)) c.in_ok-site.site.seeds.items c.in_ok-site.site.certs.items =
-    subst (λ n. IsMadeOf (certificates c.in_ok-of_index.field-0.value) n c.in_ok-site.site.seeds.items c.in_ok-site.site.certs.items) (ap length parts.named) frozen.graph in
+    let frozen = c.in_ok-freeze.ensures in
+    let made : IsMadeOf (certificates c.in_ok-freeze.field-0.value) (length (accounts k)) c.in_ok-site.site.seeds.items c.in_ok-site.site.certs.items =
+    subst (λ n. IsMadeOf (certificates c.in_ok-freeze.field-0.value) n c.in_ok-site.site.seeds.items c.in_ok-site.site.certs.items) (ap length parts.named) frozen.graph in
     let keeps : KeepsLevels table (kept_certificates k) = keeps-reading table _ [] k _ (keeps-none table c.in_ok-caps.ensures.levels) c.in_ok-part.ensures.read.1 in
-    λ a b. (λ i. has_level (frozen.table i) ((parts_graph k c.in_ok-site.site (certificates c.in_ok-of_index.field-0.value) parts made i).standing a b)) ∙ keeps a b
+    λ a b. (λ i. has_level (frozen.table i) ((parts_graph k c.in_ok-site.site (certificates c.in_ok-freeze.field-0.value) parts made i).standing a b)) ∙ keeps a b

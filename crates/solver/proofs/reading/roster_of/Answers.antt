@@ -5,7 +5,7 @@ use Rattle.solver.proofs.reading.roster_of.Goals as goal
 
 pub flow_lines-requires-clause-goes_along : goal.flow_lines-requires-clause-goes_along
 flow_lines-requires-clause-goes_along c =
-    goes_along c.args.frozen.now.rows c.args.level (flow_in c.args.workspace.now) c.accounts-accounts.ensures.readers c.requires.grade c.requires.solved.greatest.feasible.edges
+    goes_along c.args.frozen.now.parts c.args.level (flow_in c.args.workspace.now) c.accounts-accounts.ensures.readers c.requires.grade c.requires.solved.greatest.feasible.edges
 
 pub invariant_of-result : goal.invariant_of-result
 invariant_of-result c =

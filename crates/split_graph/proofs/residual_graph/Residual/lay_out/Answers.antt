@@ -13,7 +13,7 @@ pub build-requires-clause-arcs : goal.build-requires-clause-arcs
 build-requires-clause-arcs c =
     subst (λ (n : ℕ). AreSplitArcs (node_count n) c.deref.result.now) (sym c.accounts-self-inside.ensures.value)
     (subst (λ (arcs : List SplitArc). AreSplitArcs (node_count (certificates c.args.frozen.now).accounts) arcs) (sym (c.deref.ensures.value ∙ c.list_arcs.ensures.listed))
-    (are_split_arcs (record { r = c.args.frozen.now.rows; readers = c.accounts-self-inside.ensures.readers })))
+    (are_split_arcs (record { r = c.args.frozen.now.parts; readers = c.accounts-self-inside.ensures.readers })))
 
 pub returns-clause-laid : goal.returns-clause-laid
 returns-clause-laid c =

@@ -1,0 +1,10 @@
+pub mod Among
+pub mod Shifts
+pub mod Puts
+pub mod Searching
+pub mod Numbering
+pub mod Readers
+pub mod Finding
+pub mod Summing
+pub mod Copying
+pub mod Whole
