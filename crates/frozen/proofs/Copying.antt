@@ -1,16 +1,14 @@
 -- What a part is into which the rows of a graph were copied.
-use Rattle.std.proofs.Common.{ℕ, zero, suc, Bool, false, ◌≡◌, ◌≤◌, ◌<◌, ◌+◌, ◌-◌, ◌^◌, ◌==◌, if◌then◌else◌, refl, arith, sym, ap, subst, ◌∙◌, List, length, slice_index, slice_index_or, get_or}
+use Rattle.std.proofs.Common.{ℕ, zero, suc, Bool, false, ◌≡◌, ◌≤◌, ◌<◌, ◌+◌, ◌-◌, ◌==◌, if◌then◌else◌, refl, arith, sym, ap, subst, ◌∙◌, List, length, slice_index, slice_index_or}
 use Rattle.std.specs.List.{between}
 use Rattle.std.proofs.lemmas.List.Edits.{length-between, get_or-between}
 use Rattle.trust_types.specs.declared.levels.Level.{Level}
 use Rattle.trust_types.specs.declared.levels.Level.TheVariants.{Observer}
-use Rattle.trust_types.specs.declared.limits.TheConstants.{MOST_CERTS}
 use Rattle.trust_types.specs.Levels.{IsGrade}
-use Rattle.trust_types.specs.Layout.{Rows, AreRows, accounts, degree, taker, level_given, row_certificates, row_standing}
-use Rattle.frozen.specs.Parts.{Part, count, marks_seed, degree_in, giver_in, taker_in, level_in, standing_in, among, IsPart}
+use Rattle.trust_types.specs.Layout.{Rows, AreRows, accounts, degree, taker, level_given, row_standing}
+use Rattle.frozen.specs.Parts.{Part, count, degree_in, taker_in, level_in, among, IsPart}
 use Rattle.frozen.specs.inner.Copies.{IsCopy, AreFrom, AreLowered}
 use Rattle.frozen.proofs.Shifts.{start_in}
-use Rattle.frozen.proofs.Among.{among-same}
 
 abbrev start_of : Rows → ℕ → ℕ
 start_of r a = slice_index r.starts a
@@ -79,9 +77,10 @@ degree_copied c row lt =
 -- a place in a row is one of the graph's
 place_copied : (c : Copy) (row i : ℕ) → row < c.end - c.first → i < degree c.r (c.first + row) →
     (start_of c.r c.first + (start_in c.p row + i) ≡ start_of c.r (c.first + row) + i) × (start_in c.p row + i < start_of c.r c.end - start_of c.r c.first)
-place_copied c row i lt within =
-    (omega (arith, start_copied c row (omega arith)),
-    omega (arith, start_copied c row (omega arith), start_le c.r c.are (c.first + row + 1) c.end (omega (arith, c.ordered)) c.within, start_le c.r c.are c.first (c.first + row) (omega arith) (omega (arith, c.within))))
+place_copied c row i lt within = (
+  omega (arith, start_copied c row (omega arith)),
+  omega (arith, start_copied c row (omega arith), start_le c.r c.are (c.first + row + 1) c.end (omega (arith, c.ordered)) c.within, start_le c.r c.are c.first (c.first + row) (omega arith) (omega (arith, c.within))),
+)
 
 taker_copied : (c : Copy) (row i : ℕ) → row < c.end - c.first → i < degree c.r (c.first + row) → taker_in c.p row i ≡ taker c.r (c.first + row) i
 taker_copied c row i lt within =
@@ -111,17 +110,17 @@ copied_part c =
       begins = omega (arith, at 0 (omega arith), begin);
       ends = ap (start_in c.p) n ∙ omega (arith, at (c.end - c.first) (omega arith), last, long_takers c);
       follow = λ row lt.
-        let next : start_of c.r (c.first + (row + 1)) ≡ start_of c.r (c.first + row + 1) = ap (start_of c.r) (omega arith) in
-        omega (arith, at row (omega (arith, n)), at (row + 1) (omega (arith, n)), next, c.are.follow (c.first + row) (omega (arith, n, c.within)));
+          let next : start_of c.r (c.first + (row + 1)) ≡ start_of c.r (c.first + row + 1) = ap (start_of c.r) (omega arith) in
+          omega (arith, at row (omega (arith, n)), at (row + 1) (omega (arith, n)), next, c.are.follow (c.first + row) (omega (arith, n, c.within)));
       within = λ row le. omega (arith, at row (omega (arith, n)), start_le c.r c.are (c.first + row) c.end (omega (arith, n, c.ordered)) c.within, start_le c.r c.are c.first c.end c.ordered c.within, long_takers c);
       short = omega (arith, long_takers c, end_below c, c.are.takers);
       levels = long_levels c ∙ sym (long_takers c);
       grade = λ row i lt within.
-        let inside : i < degree c.r (c.first + row) = omega (arith, degree_copied c row (omega (arith, n))) in
-        subst IsGrade (sym (level_copied c row i (omega (arith, n)) inside)) (c.are.grade (c.first + row) i (omega (arith, n, c.within)) inside);
+          let inside : i < degree c.r (c.first + row) = omega (arith, degree_copied c row (omega (arith, n))) in
+          subst IsGrade (sym (level_copied c row i (omega (arith, n)) inside)) (c.are.grade (c.first + row) i (omega (arith, n, c.within)) inside);
       rises = λ row i j lt before within.
-        let inside : j < degree c.r (c.first + row) = omega (arith, degree_copied c row (omega (arith, n))) in
-        omega (arith, taker_copied c row i (omega (arith, n)) (omega (arith, inside)), taker_copied c row j (omega (arith, n)) inside, c.are.rises (c.first + row) i j (omega (arith, n, c.within)) before inside);
+          let inside : j < degree c.r (c.first + row) = omega (arith, degree_copied c row (omega (arith, n))) in
+          omega (arith, taker_copied c row i (omega (arith, n)) (omega (arith, inside)), taker_copied c row j (omega (arith, n)) inside, c.are.rises (c.first + row) i j (omega (arith, n, c.within)) before inside);
     }
 
 pub is_copy : (c : Copy) → IsCopy c.r c.named c.first c.end c.p

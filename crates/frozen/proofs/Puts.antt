@@ -1,18 +1,18 @@
 -- One certificate more in a row, one less, or one of another level.
-use Rattle.std.proofs.Common.{ℕ, zero, suc, [], ◌∷◌, ◌++◌, Bool, true, false, ◌==◌, ◌&&◌, ◌≡◌, ◌≢◌, ◌≤◌, ◌<◌, ◌+◌, ◌-◌, ◌^◌, ◌⊎◌, inl, inr, refl, arith, sym, ap, subst, ◌∙◌, length, slice_index, slice_index_or, get_or, set, List, if◌then◌else◌, length-set}
+use Rattle.std.proofs.Common.{ℕ, suc, [], ◌∷◌, ◌++◌, false, ◌==◌, ◌&&◌, ◌≡◌, ◌≢◌, ◌≤◌, ◌<◌, ◌+◌, ◌-◌, ◌^◌, ◌⊎◌, inl, inr, refl, arith, sym, ap, subst, ◌∙◌, length, slice_index, slice_index_or, get_or, set, List, if◌then◌else◌, length-set}
 use Rattle.std.specs.List.{insert, remove}
 use Rattle.std.proofs.lemmas.Bool.{cases_eq, cases_lt}
 use Rattle.std.proofs.lemmas.Bool.Decides.{nat_tests}
-use Rattle.std.proofs.lemmas.List.{get_or_past, get_or_default, get_or-set_same, get_or-set_other, get_or_append_left, get_or_push, length_push}
+use Rattle.std.proofs.lemmas.List.{get_or_default, get_or-set_same, get_or-set_other, get_or_append_left, get_or_push, length_push}
 use Rattle.std.proofs.lemmas.List.Edits.{length-insert, get_or-insert_below, get_or-insert_at, get_or-insert_above, length-remove, get_or-remove_below, get_or-remove_above}
 use Rattle.trust_types.specs.declared.levels.Level.{Level}
 use Rattle.trust_types.specs.declared.levels.Level.TheVariants.{Observer, Apprentice, Journeyer, Master, Fellow, Warden, Elder}
-use Rattle.trust_types.specs.Levels.{IsGrade, is_grade}
+use Rattle.trust_types.specs.Levels.{IsGrade}
 use Rattle.frozen.specs.Parts.{Part, count, degree_in, taker_in, level_in, standing_in, among, IsPart}
 use Rattle.frozen.specs.Writes.{IsWritten, graded, with_account}
 use Rattle.frozen.specs.inner.Rows.{IsRaised, IsPlace, IsFound}
-use Rattle.frozen.proofs.Among.{among-same, among-none, among-at, among-found, among-more, among-other}
-use Rattle.frozen.proofs.Shifts.{start_in, start_le, degree_past, standing_past, place_within, IsOneMore, Grown, one_more, standing_elsewhere, standing_others}
+use Rattle.frozen.proofs.Among.{among-same, among-none, among-at, among-other}
+use Rattle.frozen.proofs.Shifts.{start_in, start_le, standing_past, place_within, IsOneMore, Grown, one_more, standing_elsewhere, standing_others}
 
 -- the two tests of a pair
 here_by : (r row b to : ℕ) (x y : Level) → r ≡ row → b ≡ to → (if (r == row) && (b == to) then x else y) ≡ x
@@ -53,9 +53,9 @@ standing_by old new row to level elsewhere others here r b =
 -- who has a place in a row and isn't there is no taker
 absent : (p : Part) (row to place : ℕ) → IsPlace p row to place → standing_in p row to ≡ Observer
 absent p row to place at = among-none (taker_in p row) (level_in p row) to (degree_in p row) (λ i lt is. elim (cases_lt i place) [
-      | inl before ↦ absurd (omega (arith, at.before i before, is))
-      | inr behind ↦ absurd (omega (arith, at.behind i behind lt, is))
-    ])
+  | inl before ↦ absurd (omega (arith, at.before i before, is))
+  | inr behind ↦ absurd (omega (arith, at.behind i behind lt, is))
+])
 
 present : (p : Part) (row place : ℕ) → IsPart p → row < count p → place < degree_in p row → standing_in p row (taker_in p row place) ≡ level_in p row place
 present p row place is below within = among-at (taker_in p row) (level_in p row) place (degree_in p row) (λ j k before lt. is.rises row j k below before lt) within

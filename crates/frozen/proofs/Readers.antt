@@ -1,16 +1,16 @@
 -- The readers of parts give each standing certificate once.
-use Rattle.std.proofs.Common.{ℕ, zero, suc, ◌≡◌, ◌≢◌, ◌≤◌, ◌<◌, ◌+◌, ◌/◌, ◌%◌, ◌^◌, inl, inr, refl, arith, sym, ap, subst, ◌∙◌, List, [], length, Bool, false, slice_index, slice_get, get_or, map}
+use Rattle.std.proofs.Common.{ℕ, zero, suc, ◌≡◌, ◌≤◌, ◌<◌, ◌/◌, ◌%◌, inl, inr, refl, arith, sym, ap, subst, ◌∙◌, List, length, false, slice_index, slice_get, get_or}
 use Rattle.std.proofs.lemmas.Bool.{cases_lt}
 use Rattle.std.proofs.lemmas.List.{get_or_past, length-map, get_or-map}
 use Rattle.trust_types.specs.declared.levels.Level.{Level}
 use Rattle.trust_types.specs.declared.graphs.Cert.{Cert}
 use Rattle.trust_types.specs.declared.levels.Level.TheVariants.{Observer}
 use Rattle.trust_types.specs.Rows.{GivesEachOnce}
-use Rattle.frozen.specs.Parts.{Part, PartWithRoom, no_part, count, degree_in, giver_in, taker_in, level_in, given_in, standing_in, IsPart}
+use Rattle.frozen.specs.Parts.{Part, PartWithRoom, no_part, count, degree_in, giver_in, taker_in, level_in, given_in, IsPart}
 use Rattle.std.specs.declared.sync.Arc.{Arc}
-use Rattle.frozen.specs.Sites.{shared_part, shared_parts, names, part_at, part_of, accounts, degree, is_seed, taker, given, standing, certificates_of, AreParts}
+use Rattle.frozen.specs.Sites.{shared_part, shared_parts, names, part_at, part_of, accounts, degree, is_seed, given, standing, certificates_of, AreParts}
 use Rattle.frozen.proofs.Among.{among-at, among-found}
-use Rattle.frozen.proofs.Shifts.{degree_past, standing_past}
+use Rattle.frozen.proofs.Shifts.{standing_past}
 use Rattle.frozen.proofs.Numbering.{AreFull, row_within, row_outside, part_within, name_at}
 
 first_start : (row : ℕ) → row ≡ 0 → slice_index no_part.starts row ≤ 0

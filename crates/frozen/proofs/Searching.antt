@@ -1,5 +1,5 @@
 -- What a binary search of a row tells.
-use Rattle.std.proofs.Common.{ℕ, ◌≡◌, ◌≤◌, ◌<◌, ◌+◌, ◌-◌, arith, sym, ap, ◌∙◌, inl, inr, List, length, slice_index, get_or, take, drop, Result, Ok, Err}
+use Rattle.std.proofs.Common.{ℕ, ◌≡◌, ◌≤◌, ◌<◌, ◌+◌, ◌-◌, arith, sym, ap, ◌∙◌, inl, inr, List, length, get_or, take, drop, Result, Ok, Err}
 use Rattle.std.specs.List.Sorted.{IsBinarySearchResult}
 use Rattle.std.specs.Ordering.{nat_cmp}
 use Rattle.std.specs.Result.{MatchResult}
@@ -49,4 +49,4 @@ search_facts p row to start end r is below start_is end_is answer =
     let n : length (row_items p (start_in p row) (start_in p (row + 1))) ≡ degree_in p row = long p (start_in p row) (start_in p (row + 1)) (is.within (row + 1) (omega arith)) in
     let here : IsBinarySearchResult (λ y. nat_cmp y to) (row_items p (start_in p row) (start_in p (row + 1))) r = rw (← start_is, ← end_is) answer in
     told p row to r is below (searched (row_items p (start_in p row) (start_in p (row + 1))) to r here (λ i j le lt.
-      omega (arith, item p (start_in p row) (start_in p (row + 1)) i (omega (arith, n)), item p (start_in p row) (start_in p (row + 1)) j (omega (arith, n)), rising p row i j is below le (omega (arith, n)))))
+    omega (arith, item p (start_in p row) (start_in p (row + 1)) i (omega (arith, n)), item p (start_in p row) (start_in p (row + 1)) j (omega (arith, n)), rising p row i j is below le (omega (arith, n)))))

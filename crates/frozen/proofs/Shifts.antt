@@ -1,15 +1,11 @@
 -- Parts of a site where one row has one certificate more.
-use Rattle.std.proofs.Common.{ℕ, zero, suc, ◌≡◌, ◌≢◌, ◌≤◌, ◌<◌, ◌+◌, ◌-◌, ◌^◌, ◌⊎◌, inl, inr, refl, arith, sym, ap, subst, ◌∙◌, length, slice_index, slice_index_or, get_or, List}
-use Rattle.std.specs.List.{insert, remove}
-use Rattle.std.proofs.lemmas.Bool.{cases_eq, cases_lt}
+use Rattle.std.proofs.Common.{ℕ, zero, suc, ◌≡◌, ◌≢◌, ◌≤◌, ◌<◌, ◌+◌, ◌-◌, ◌⊎◌, inl, inr, arith, ap, ◌∙◌, length, slice_index, slice_index_or}
+use Rattle.std.proofs.lemmas.Bool.{cases_lt}
 use Rattle.std.proofs.lemmas.List.{get_or_past}
-use Rattle.std.proofs.lemmas.List.Edits.{length-insert, get_or-insert_below, get_or-insert_at, get_or-insert_above, length-remove, get_or-remove_below, get_or-remove_above}
-use Rattle.trust_types.specs.declared.levels.Level.{Level}
 use Rattle.trust_types.specs.declared.levels.Level.TheVariants.{Observer}
-use Rattle.trust_types.specs.Levels.{IsGrade}
 use Rattle.frozen.specs.Parts.{Part, count, degree_in, taker_in, level_in, standing_in, among, IsPart}
-use Rattle.frozen.specs.inner.Rows.{IsRaised, IsPlace}
-use Rattle.frozen.proofs.Among.{among-same, among-none, among-at, among-found, among-more}
+use Rattle.frozen.specs.inner.Rows.{IsRaised}
+use Rattle.frozen.proofs.Among.{among-same, among-more}
 
 -- where a row begins
 abbrev pub start_in : Part → ℕ → ℕ

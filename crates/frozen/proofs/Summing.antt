@@ -1,5 +1,5 @@
 -- How many certificates the accounts of parts give together.
-use Rattle.std.proofs.Common.{ℕ, zero, suc, ◌≡◌, ◌≤◌, ◌<◌, ◌+◌, ◌-◌, ◌/◌, ◌%◌, refl, arith, sym, ap, ◌∙◌, List, [], ◌∷◌, length, length-append}
+use Rattle.std.proofs.Common.{ℕ, zero, suc, ◌≡◌, ◌≤◌, ◌<◌, ◌+◌, ◌/◌, ◌%◌, refl, arith, sym, ap, ◌∙◌, List, [], ◌∷◌, length, length-append}
 use Rattle.std.proofs.lemmas.List.Sums.{sum_by-cons}
 use Rattle.trust_types.specs.Sum.{sum_below}
 use Rattle.trust_types.proofs.Sums.{sum_below-eq}

@@ -1,19 +1,18 @@
 -- The parts that a graph was copied into.
-use Rattle.std.proofs.Common.{ℕ, zero, suc, Bool, false, ◌≡◌, ◌≢◌, ◌≤◌, ◌<◌, ◌+◌, ◌-◌, ◌*◌, ◌/◌, ◌%◌, ◌↔◌, inl, inr, refl, arith, sym, ap, subst, ◌∙◌, List, [], ◌∷◌, ◌++◌, length, get_or, take, drop, IsTrue, Contains, Result, Ok, Err, IfOk, take-add}
-use Rattle.std.specs.List.{between}
+use Rattle.std.proofs.Common.{ℕ, Bool, false, ◌≡◌, ◌≤◌, ◌<◌, ◌+◌, ◌-◌, ◌*◌, ◌/◌, ◌%◌, ◌↔◌, inl, inr, refl, arith, sym, ap, subst, ◌∙◌, List, [], ◌∷◌, ◌++◌, length, take, IsTrue, Contains, Result, Ok, Err, IfOk, take-add}
 use Rattle.std.proofs.lemmas.Bool.{cases_lt}
 use Rattle.std.proofs.lemmas.List.{get_or_past, get_or_append_left, get_or_push, length_push, take_all}
 use Rattle.trust_types.specs.declared.levels.Level.{Level}
 use Rattle.trust_types.specs.declared.levels.Level.TheVariants.{Observer}
 use Rattle.trust_types.specs.declared.graphs.Cert.{Cert}
-use Rattle.trust_types.specs.declared.limits.TheConstants.{MOST_ACCOUNTS, MOST_CERTS}
+use Rattle.trust_types.specs.declared.limits.TheConstants.{MOST_ACCOUNTS}
 use Rattle.trust_types.specs.Levels.{IsGrade}
 use Rattle.trust_types.specs.Tables.{Table}
 use Rattle.trust_types.specs.NameLists.{AreApart}
 use Rattle.trust_types.specs.Certs.{IsMadeOf}
-use Rattle.trust_types.specs.Layout.{Rows, AreRows, degree, taker, level_given, row_certificates, row_standing, accounts as accounts_in}
-use Rattle.frozen.specs.Parts.{Part, no_part, count, degree_in, taker_in, level_in, among, IsPart}
-use Rattle.frozen.specs.Sites.{part_at, part_of, names, accounts, is_seed, standing, certificates_of, certs, parts_for, degree as degree_of, taker as taker_of, AreParts}
+use Rattle.trust_types.specs.Layout.{Rows, AreRows, degree, taker, level_given, row_certificates, accounts as accounts_in}
+use Rattle.frozen.specs.Parts.{Part, no_part, count, taker_in, level_in, among, IsPart}
+use Rattle.frozen.specs.Sites.{part_at, part_of, names, accounts, is_seed, standing, degree as degree_of, taker as taker_of, AreParts}
 use Rattle.frozen.specs.Revision.{Revision, revision_of, Freezes}
 use Rattle.frozen.specs.inner.Copies.{IsCopy, AreCopies}
 use Rattle.frozen.proofs.Among.{among-same}
@@ -161,11 +160,11 @@ whole_parts m = record {
   full = m.copies.full;
   giver = λ a below some. (copy_of m a below).giver (a % 64) (row_there m a below) ∙ number a;
   below = λ a i below within.
-    let inside : i < degree m.r a = omega (arith, same_degree m a below) in
-    omega (arith, same_taker m a i below inside, size_is m, m.are.below a i (omega (arith, size_is m)) inside);
+      let inside : i < degree m.r a = omega (arith, same_degree m a below) in
+      omega (arith, same_taker m a i below inside, size_is m, m.are.below a i (omega (arith, size_is m)) inside);
   others = λ a i below within e.
-    let inside : i < degree m.r a = omega (arith, same_degree m a below) in
-    m.are.others a i (omega (arith, size_is m)) inside (sym (same_taker m a i below inside) ∙ e);
+      let inside : i < degree m.r a = omega (arith, same_degree m a below) in
+      m.are.others a i (omega (arith, size_is m)) inside (sym (same_taker m a i below inside) ∙ e);
   few = omega (arith, ap length (names_are m), m.few);
   few_certs = omega (arith, m.copies.certs, m.are.ends, m.are.takers);
   apart = subst (λ (ns : List (List ℕ)). AreApart ns) (sym (names_are m)) m.apart;
@@ -173,15 +172,15 @@ whole_parts m = record {
 
 pub whole_freezes : (m : Whole) (v : Revision) (number : ℕ) (caps : Table) → v ≡ revision_of number caps m.ps → Freezes v number caps m.named m.seeds m.list
 whole_freezes m v number caps is = subst (λ (x : Revision). Freezes x number caps m.named m.seeds m.list) (sym is) (record {
-      revision = refl;
-      table = refl;
-      named = names_are m;
-      graph = record {
-        size = size_is m ∙ sym m.size;
-        seeded = λ a. subst (λ (b : Bool). IsTrue b ↔ Contains m.seeds a) (sym (same_seeds m a)) (m.made.seeded a);
-        standing = λ c. subst (λ (l : Level). Contains m.list c ↔ (IsGrade c.level × (l ≡ c.level))) (sym (same_standing m c.from c.to)) (m.made.standing c);
-      };
-    })
+  revision = refl;
+  table = refl;
+  named = names_are m;
+  graph = record {
+    size = size_is m ∙ sym m.size;
+    seeded = λ a. subst (λ (b : Bool). IsTrue b ↔ Contains m.seeds a) (sym (same_seeds m a)) (m.made.seeded a);
+    standing = λ c. subst (λ (l : Level). Contains m.list c ↔ (IsGrade c.level × (l ≡ c.level))) (sym (same_standing m c.from c.to)) (m.made.standing c);
+  };
+})
 
 pub if_ok : {A E : Type 0} (P Q : A → Type 0) (r : Result A E) → ((x : A) → P x → Q x) → IfOk r P → IfOk r Q
 if_ok P Q (Ok x) f h = f x h

@@ -1,5 +1,5 @@
 -- What the parts of a site, one after another, say of it. Part k has the accounts from 64 * k on.
-use Rattle.std.specs.Prelude.{ℕ, Bool, ◌≡◌, ◌≢◌, ◌<◌, ◌≤◌, ◌+◌, ◌*◌, ◌/◌, ◌%◌, List, [], ◌∷◌, ◌++◌, length, slice_index_or, sum_by, map}
+use Rattle.std.specs.Prelude.{ℕ, Bool, ◌≡◌, ◌≢◌, ◌<◌, ◌≤◌, ◌+◌, ◌/◌, ◌%◌, List, [], ◌∷◌, ◌++◌, length, slice_index_or, sum_by, map}
 use Rattle.std.specs.declared.sync.Arc.{Arc}
 use Rattle.trust_types.specs.declared.levels.Level.{Level}
 use Rattle.trust_types.specs.declared.graphs.Cert.{Cert}

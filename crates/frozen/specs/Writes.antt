@@ -1,9 +1,9 @@
 -- What one write leaves of a part of a site.
-use Rattle.std.specs.Prelude.{ℕ, Bool, false, ◌≡◌, ◌<◌, ◌≤◌, ◌+◌, ◌%◌, ◌==◌, ◌&&◌, if◌then◌else◌, List, [], ◌∷◌, ◌++◌, length, slice_set}
+use Rattle.std.specs.Prelude.{ℕ, Bool, false, ◌≡◌, ◌+◌, ◌%◌, ◌==◌, ◌&&◌, if◌then◌else◌, List, [], ◌∷◌, ◌++◌, length, slice_set}
 use Rattle.trust_types.specs.declared.levels.Level.{Level}
 use Rattle.trust_types.specs.declared.graphs.Cert.{Cert}
 use Rattle.trust_types.specs.Levels.{is_grade}
-use Rattle.frozen.specs.Parts.{Part, standing_in, degree_in, taker_in}
+use Rattle.frozen.specs.Parts.{Part, standing_in}
 
 -- One account more, which is no seed and gives nothing yet.
 abbrev pub with_account : Part → List ℕ → Part

@@ -38,13 +38,13 @@ impl Model for Block {
     ghost Value = { PartWithRoom };
 
     ghost view = { λ b. record {
-        part = record { names = b.names.items; seeds = b.seeds.items; givers = b.givers.items; starts = b.starts.items; takers = b.takers.items; levels = b.levels.items };
-        has_room = b.has_room
+      part = record { names = b.names.items; seeds = b.seeds.items; givers = b.givers.items; starts = b.starts.items; takers = b.takers.items; levels = b.levels.items };
+      has_room = b.has_room;
     } };
 
     ghost invariant = { λ b. IsPart (record { names = b.names.items; seeds = b.seeds.items; givers = b.givers.items; starts = b.starts.items; takers = b.takers.items; levels = b.levels.items })
         × (b.has_room ≡ true → (vec_len b.names < vec_capacity b.names) × (vec_len b.seeds < vec_capacity b.seeds) × (vec_len b.givers < vec_capacity b.givers)
-            × (vec_len b.starts < vec_capacity b.starts) × (vec_len b.takers < vec_capacity b.takers) × (vec_len b.levels < vec_capacity b.levels) × (vec_len b.takers + 1 < 2 ^ 32)) };
+        × (vec_len b.starts < vec_capacity b.starts) × (vec_len b.takers < vec_capacity b.takers) × (vec_len b.levels < vec_capacity b.levels) × (vec_len b.takers + 1 < 2 ^ 32)) };
 }
 
 impl Block {
@@ -121,7 +121,11 @@ impl Block {
             names: Vec::from_slice(alloc, &names[first as usize..end as usize])?,
             seeds: Vec::from_slice(alloc, &graph.seeds()[first as usize..end as usize])?,
             givers: numbers_from(alloc, first, end)?,
-            starts: lowered(alloc, &graph.starts()[first as usize..end as usize + 1], begin)?,
+            starts: lowered(
+                alloc,
+                &graph.starts()[first as usize..end as usize + 1],
+                begin,
+            )?,
             takers: taker_numbers(alloc, &graph.takers()[begin as usize..stop as usize])?,
             levels: Vec::from_slice(alloc, &graph.levels()[begin as usize..stop as usize])?,
             has_room: false,

@@ -238,13 +238,7 @@ pub fn read_site(alloc: Global, bytes: &[u8]) -> Result<Arc<Frozen>, SiteFault>
     let part = read_site_part(alloc, &mut text, &caps, false)?;
     let revision = text.number() - head;
     let site = part.draft.finish(alloc)?;
-    Ok(freeze::<Brand>(
-        alloc,
-        revision as u32,
-        caps,
-        site,
-        Blank::new(1),
-    )?)
+    Ok(freeze::<Brand>(alloc, revision as u32, caps, site, Blank::new(1))?)
 }
 
 /// Reads a proof text: just that proof, with the lines of its flow in rising order. It goes once over the text, and takes

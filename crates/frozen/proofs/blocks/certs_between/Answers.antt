@@ -1,4 +1,3 @@
-use Rattle.std.proofs.Common.{◌≡◌, ◌≤◌, arith}
 use Rattle.frozen.proofs.Copying.{start_le}
 use Rattle.frozen.proofs.blocks.certs_between.Goals as goal
 

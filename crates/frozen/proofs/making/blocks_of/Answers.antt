@@ -1,9 +1,9 @@
-use Rattle.std.proofs.Common.{◌≡◌, ◌≤◌, ◌<◌, ◌+◌, ◌-◌, ◌*◌, ◌∙◌, ◌++◌, ◌∷◌, [], ℕ, List, ap, sym, subst, arith, length, slice_index}
+use Rattle.std.proofs.Common.{◌≡◌, ◌≤◌, ◌<◌, ◌+◌, ◌-◌, ◌*◌, ◌∙◌, ◌++◌, ◌∷◌, [], ℕ, List, ap, sym, subst, arith, length}
 use Rattle.std.proofs.lemmas.List.{length-map, map-append, length_push}
 use Rattle.frozen.specs.Parts.{Part, count}
-use Rattle.frozen.specs.Sites.{shared_part, shared_parts, part_at, parts_for}
+use Rattle.frozen.specs.Sites.{shared_part, shared_parts, part_at}
 use Rattle.frozen.specs.inner.Copies.{AreCopies}
-use Rattle.frozen.proofs.Whole.{one_copy_more, all_more, no_copies}
+use Rattle.frozen.proofs.Whole.{one_copy_more, all_more}
 use Rattle.frozen.proofs.Copying.{start_le}
 use Rattle.frozen.proofs.making.blocks_of.Goals as goal
 

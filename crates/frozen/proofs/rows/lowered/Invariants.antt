@@ -1,4 +1,4 @@
-use Rattle.std.proofs.Common.{◌≡◌, ◌≤◌, ◌<◌, ◌+◌, ℕ, slice_index, length, take, vec_capacity, vec_len}
+use Rattle.std.proofs.Common.{◌≡◌, ◌≤◌, ◌<◌, ◌+◌, ℕ, slice_index, length, vec_capacity, vec_len}
 use Rattle.frozen.proofs.rows.lowered.Given as goal
 
 abbrev pub invariant-loop-number : goal.invariant-loop-number

@@ -1,4 +1,4 @@
-use Rattle.std.proofs.Common.{◌≡◌, ◌≤◌, ◌<◌, ◌+◌, ◌-◌, ℕ, slice_index, length, vec_capacity, vec_len}
+use Rattle.std.proofs.Common.{◌≤◌, ◌-◌, vec_capacity}
 use Rattle.frozen.specs.inner.Copies.{AreFrom}
 use Rattle.frozen.proofs.rows.numbers_from.Given as goal
 

@@ -1,4 +1,4 @@
-use Rattle.std.proofs.Common.{◌≡◌, ◌<◌, ◌+◌, ℕ, ap, arith, length, false, true, ◌∙◌, subst, List}
+use Rattle.std.proofs.Common.{◌≡◌, ◌+◌, ℕ, ap, arith, false, true, ◌∙◌, subst, List}
 use Rattle.std.specs.Vec.{with_items}
 use Rattle.std.proofs.lemmas.List.{with_items_is}
 use Rattle.frozen.specs.inner.Rows.{IsRaised}

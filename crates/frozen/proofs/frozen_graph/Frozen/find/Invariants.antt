@@ -1,4 +1,4 @@
-use Rattle.std.proofs.Common.{◌≡◌, ◌<◌, ℕ, get_or, false, List, []}
+use Rattle.std.proofs.Common.{◌≡◌, ◌<◌, ℕ, get_or, false, []}
 use Rattle.std.specs.Str.{bytes_eq}
 use Rattle.frozen.proofs.frozen_graph.Frozen.find.Given as goal
 

@@ -1,4 +1,4 @@
-use Rattle.std.proofs.Common.{◌≡◌, ◌≤◌, ◌∙◌, ℕ, List, sym, ap, arith, rules, length, vec_len}
+use Rattle.std.proofs.Common.{◌≡◌, ◌∙◌, sym, ap, arith, rules, length, vec_len}
 use Rattle.frozen.specs.Sites.{shared_parts}
 use Rattle.frozen.specs.Revision.{revision_of}
 use Rattle.frozen.proofs.Whole.{Whole, whole, whole_parts, whole_freezes, if_ok}

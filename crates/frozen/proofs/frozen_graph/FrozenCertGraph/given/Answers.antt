@@ -1,4 +1,4 @@
-use Rattle.std.proofs.Common.{◌∙◌, ◌≡◌, ◌<◌, ◌%◌, ℕ, ap, sym, subst, arith}
+use Rattle.std.proofs.Common.{◌∙◌, ◌≡◌, ◌%◌, ap, arith}
 use Rattle.frozen.specs.Parts.{Part, degree_in}
 use Rattle.frozen.specs.Sites.{part_of}
 use Rattle.frozen.proofs.Readers.{given_is}
