@@ -1,9 +1,7 @@
-//! Tests of what no command reaches: forms in memory, rooms with more places than are needed, blocks, readers of a graph. It has no code of its
+//! Tests of what no command reaches: forms in memory, rooms with more places than are needed, readers of a graph. It has no code of its
 //! own. What a command reaches is told in `cases`.
 #![tactic(auto)]
 
-#[cfg(test)]
-mod blocks;
 #[cfg(test)]
 mod graphs;
 #[cfg(test)]
