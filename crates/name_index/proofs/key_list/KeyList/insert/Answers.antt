@@ -14,8 +14,8 @@ invariant_of-self c =
     inserted _ _ _ _ (c.insert-inserted.ensures.succeeds room) c.insert-inserted.ensures.items in
     subst (IsNonDecreasingBy (λ entry. entry.key)) (sym there)
     (rises_with before c.args.entry c.place_of-place.result c.self.invariant
-      (subst (λ entries. c.place_of-place.result ≤ length entries) c.deref.ensures.value c.place_of-place.ensures.within)
-      (subst (λ entries. IsPlace entries c.args.entry.key c.place_of-place.result) c.deref.ensures.value c.place_of-place.ensures.place))
+    (subst (λ entries. c.place_of-place.result ≤ length entries) c.deref.ensures.value c.place_of-place.ensures.within)
+    (subst (λ entries. IsPlace entries c.args.entry.key c.place_of-place.result) c.deref.ensures.value c.place_of-place.ensures.place))
 
 pub returns : goal.returns
 returns c =
