@@ -29,7 +29,7 @@ pub enum TextKind {
     Rises,
     /// The table's last entry is not 1.
     EndNotOne,
-    /// A level's place holds another word, or a level that the text's table hasn't.
+    /// A level's place holds another word, or a level that the text's table hasn't; or the text's table hasn't the grade that is asked for.
     BadLevel,
     /// A place for a name or a node holds another word.
     BadName,
@@ -93,7 +93,7 @@ impl TextKind {
 }
 
 /// The first line of a text that has a fault, counted from 1, and its kind. What is missing at the end of a text is a
-/// fault of the line after the last.
+/// fault of the line after the last, and so is a grade that is asked for and that the table hasn't.
 #[derive(Clone, Copy, Debug, PartialEq, Eq)]
 pub struct TextFault {
     pub line: u64,
