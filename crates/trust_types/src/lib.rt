@@ -28,7 +28,7 @@ pub use laws::{
 pub use levels::Level;
 pub use limits::{
     FEWEST_LEVELS, GREATEST_ENTRY, LAST_MOMENT, LONGEST_TEXT, MOST_ACCOUNTS, MOST_CERTS,
-    MOST_ENTRIES, MOST_LEVELS,
+    MOST_ENTRIES, MOST_LEVELS, limits_are_these,
 };
 pub use memory::NoMemory;
 pub use names::Name;
