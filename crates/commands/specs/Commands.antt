@@ -3,7 +3,6 @@ use Rattle.std.specs.Prelude.{ℕ, List, [], ◌∷◌, Option, Some, None, opti
 use Rattle.std.specs.Str.{bytes_eq}
 use Rattle.trust_types.specs.declared.levels.Level.{Level}
 use Rattle.trust_types.specs.Levels.{level_of, is_grade, IsGrade}
-use Rattle.commands.specs.declared.command.TheConstants.{MOST_SITE_BYTES, MOST_PROOF_BYTES}
 use Rattle.commands.specs.declared.command.Command.{Command}
 use Rattle.commands.specs.declared.command.Command.TheVariants.{Check, Rosters, Audit}
 use Rattle.commands.specs.declared.command.Asked.{Asked}
@@ -30,11 +29,11 @@ command_of (word ∷ level ∷ []) =
     if bytes_eq word (codes "audit") then option_map Audit (grade_of level) else None
 command_of _ = None
 
--- The most bytes of input that a command takes.
+-- The most bytes of input that a command takes: 256 MiB of a proof, 64 MiB of a site.
 abbrev pub limit_of : Command → ℕ
-limit_of Check = MOST_PROOF_BYTES
-limit_of (Rosters asked) = MOST_SITE_BYTES
-limit_of (Audit level) = MOST_SITE_BYTES
+limit_of Check = 268435456
+limit_of (Rosters asked) = 67108864
+limit_of (Audit level) = 67108864
 
 -- Only grades are asked for.
 abbrev pub AreGrades : Asked → Type 0

@@ -40,6 +40,6 @@ pub record IsWritten (old new : Part) (row to : ℕ) (level : Level) : Type 0 wh
 abbrev pub with_giver : Part → ℕ → Part
 with_giver p giver = record p { givers = slice_set p.givers (row_of giver) giver }
 
--- One certificate was put in place of the one for the same taker. Nothing else changed.
+-- One certificate was put in place of the one for the same taker, and its row has its giver now. Nothing else changed.
 abbrev pub IsPut : Part → Part → Cert → Type 0
 IsPut old new cert = IsWritten (with_giver old cert.from) new (row_of cert.from) cert.to cert.level

@@ -42,8 +42,9 @@ impl Model for Frozen {
 }
 
 impl Frozen {
-    /// Freezes accounts by their names, seeds and standing certificates under a revision's number. It looks at each of them once.
-    /// One step, one more an account and a certificate, and three more a block.
+    /// Freezes accounts by their names, seeds and standing certificates under a revision's number. It makes a plain graph of them and
+    /// copies its rows into blocks, in time in proportion to their number. One step, one more an account and a certificate, and three
+    /// more a block; no more than that where memory runs out.
     ///
     /// # Errors
     /// [`NoMemory`] where there isn't enough for the blocks, and for no other cause.
@@ -73,7 +74,7 @@ impl Frozen {
     }
 
     /// Freezes what blocks hold under a revision's number. The blocks are taken over and not copied, in their order, and stay as they are.
-    /// One step, and one more a block.
+    /// One step, and one more a block; no more than that where memory runs out.
     ///
     /// # Errors
     /// [`NoMemory`] where there isn't enough for the list of the blocks, and for no other cause.

@@ -42,8 +42,8 @@ impl NameNumbers {
         }
     }
 
-    /// The number of the name; `None` where the list hasn't it. It looks at one or two of the names in the table, whatever they are at no more
-    /// than the logarithm of their number, and at as many of the others as the logarithm of theirs.
+    /// The number of the name; `None` where the list hasn't it. It looks at one or two of the table's entries, whatever the names are at no
+    /// more than the logarithm of their number, and at as many of the others as the logarithm of theirs.
     pub fn find(&self, name: &Name) -> Option<u32>
         ensures { (names : List (List ℕ)) → AreNumbersOf names self.now.entries → result ≡ number_of names name.now }
     {
@@ -54,8 +54,8 @@ impl NameNumbers {
         }
     }
 
-    /// Makes room for one more name. Of n names about the square root of n were pushed since the table was made, or it is made anew. The
-    /// numbers are of the same names, whatever it answers.
+    /// Makes room for one more name. The numbers are of the same names, whatever it answers. Where some eight times the square root of the
+    /// table's length were pushed since it was made, it is made anew: that sorts all of them, and takes memory for as many.
     ///
     /// # Errors
     /// [`NoMemory`] where there isn't enough.

@@ -20,7 +20,7 @@ fits text = if nat_le (length text) LONGEST_TEXT then Ok record {} else Err (Lon
 abbrev pub article_there : List Record → ℕ → Judged
 article_there posts n = if nat_lt n (length (articles posts)) then Ok record {} else Err NoSuchArticle
 
--- No project has the name, or it has this number.
+-- Nothing where no project was found, else that the name is taken, with the project's number.
 abbrev pub not_taken : Option ℕ → Judged
 not_taken (Some n) = Err (NameTaken n)
 not_taken None = Ok record {}

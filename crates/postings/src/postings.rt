@@ -118,7 +118,11 @@ impl Postings {
         }
     }
 
-    /// Makes room for one post of a kind: of a diary by this author, of a reply to this article. The posts stay as they are, whatever it answers.
+    /// Makes room for one post of a kind: of a diary by this author, of a reply to this article; else neither is looked at. Room that was reserved
+    /// before is given up. The posts stay as they are, whatever it answers.
+    ///
+    /// The first entry of a diary takes memory for a list of each account below its author too, where that has none; the first reply to an
+    /// article likewise.
     ///
     /// # Errors
     /// [`NoMemory`] where there isn't enough.

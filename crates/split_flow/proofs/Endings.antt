@@ -1,5 +1,5 @@
 -- What the rests of a split graph say of the flow: while units are moved, and once no more can be.
-use Rattle.std.proofs.Common.{ℕ, Bool, ◌+◌, ◌==◌, ◌≡◌, ◌≤◌, ◌<◌, refl, arith, subst, List}
+use Rattle.std.proofs.Common.{ℕ, Bool, ◌+◌, ◌==◌, ◌≡◌, ◌≤◌, ◌<◌, refl, arith, subst}
 use Rattle.std.proofs.lemmas.Bool.Decides.{nat_tests}
 use Rattle.trust_types.specs.declared.levels.Level.{Level}
 use Rattle.trust_types.specs.declared.accounts.Node.{Node}

@@ -51,7 +51,7 @@ balanced m x below =
     ]
 
 -- a node that sends units has capacity
-sends : (m : Moves) → CapacityPasses m.g m.level m.cap → (x : Node) (b : ℕ) → b < m.g.accounts → IsNode m.g.accounts x → 0 < units_moved m.r x b → 0 < m.cap x
+pub sends : (m : Moves) → CapacityPasses m.g m.level m.cap → (x : Node) (b : ℕ) → b < m.g.accounts → IsNode m.g.accounts x → 0 < units_moved m.r x b → 0 < m.cap x
 sends m passes Root b below is some = passes.root
 sends m passes (Account a) b below is some =
     omega (arith, room_through m (Account a) is, passed_on m (Account a) is, part-le-sum_below m.g.accounts (units_moved m.r (Account a)) b below)

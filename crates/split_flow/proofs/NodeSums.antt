@@ -1,8 +1,8 @@
 -- Sums over the split nodes.
-use Rattle.std.proofs.Common.{ℕ, zero, suc, ◌+◌, ◌≡◌, ◌≢◌, arith, ap, ◌∙◌}
+use Rattle.std.proofs.Common.{ℕ, zero, suc, ◌+◌, ◌≡◌, ◌≢◌, ◌≤◌, arith, ap, ◌∙◌}
 use Rattle.trust_types.specs.declared.accounts.Node.TheVariants.{Root, Account}
 use Rattle.trust_types.specs.Sum.{sum_below}
-use Rattle.trust_types.proofs.Sums.{sum_below-add, sum_below-eq, sum_below-zero}
+use Rattle.trust_types.proofs.Sums.{sum_below-add, sum_below-eq, sum_below-le, sum_below-zero}
 use Rattle.split_flow.specs.Split.{SplitNode, InHalf, OutHalf, Supersink, IsSplitNode, sum_nodes}
 use Rattle.split_flow.proofs.Sums.{sum_below-point}
 use Rattle.split_flow.proofs.Nodes.{in_apart, out_apart}
@@ -24,6 +24,16 @@ sum_nodes-eq n f h same =
       sum_below-eq n (halves f) (halves h) (λ a lt. omega (arith, same (InHalf (Account a)) lt, same (OutHalf (Account a)) lt)),
     )
 
+pub sum_nodes-le : (n : ℕ) (f h : SplitNode → ℕ) → ((u : SplitNode) → IsSplitNode n u → f u ≤ h u) → sum_nodes n f ≤ sum_nodes n h
+sum_nodes-le n f h le =
+    omega (
+      arith,
+      le (InHalf Root) tt,
+      le (OutHalf Root) tt,
+      le Supersink tt,
+      sum_below-le n (halves f) (halves h) (λ a lt. omega (arith, le (InHalf (Account a)) lt, le (OutHalf (Account a)) lt)),
+    )
+
 pub sum_nodes-add : (n : ℕ) (f h : SplitNode → ℕ) → sum_nodes n (λ u. f u + h u) ≡ sum_nodes n f + sum_nodes n h
 sum_nodes-add n f h =
     let apart : sum_below n (halves (λ u. f u + h u)) ≡ sum_below n (λ a. halves f a + halves h a) =
@@ -31,7 +41,7 @@ sum_nodes-add n f h =
     omega (arith, apart, sum_below-add n (halves f) (halves h))
 
 -- sums over split nodes and over numbers may change places
-sum_nodes-below : (n m : ℕ) (f : ℕ → SplitNode → ℕ) → sum_nodes n (λ v. sum_below m (λ a. f a v)) ≡ sum_below m (λ a. sum_nodes n (f a))
+pub sum_nodes-below : (n m : ℕ) (f : ℕ → SplitNode → ℕ) → sum_nodes n (λ v. sum_below m (λ a. f a v)) ≡ sum_below m (λ a. sum_nodes n (f a))
 sum_nodes-below n zero f = sum_nodes-zero n
 sum_nodes-below n (suc m) f =
     sum_nodes-add n (λ v. sum_below m (λ a. f a v)) (f m) ∙ ap (λ (k : ℕ). k + sum_nodes n (f m)) (sum_nodes-below n m f)

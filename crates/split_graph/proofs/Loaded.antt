@@ -1,18 +1,20 @@
 -- The arcs that were laid out are those of the split graph, in their places.
-use Rattle.std.proofs.Common.{ℕ, ◌+◌, ◌*◌, ◌^◌, ◌≡◌, ◌≤◌, ◌<◌, arith, ap, sym, subst, ◌∙◌, List, length, get_or}
+use Rattle.std.proofs.Common.{ℕ, zero, suc, Bool, true, false, ◌+◌, ◌*◌, ◌^◌, ◌≡◌, ◌≤◌, ◌<◌, refl, arith, ap, sym, subst, ◌∙◌, if◌then◌else◌, List, [], ◌∷◌, ◌++◌, length, get_or, length-append}
 use Rattle.std.proofs.lemmas.List.{length-replicate}
 use Rattle.trust_types.specs.declared.accounts.Node.{Node}
 use Rattle.trust_types.specs.declared.accounts.Node.TheVariants.{Root, Account}
 use Rattle.trust_types.specs.Rows.{GivesEachOnce}
-use Rattle.frozen.specs.Sites.{degree, taker, given}
+use Rattle.trust_types.specs.Sum.{sum_below}
+use Rattle.trust_types.proofs.Sums.{sum_below-eq}
+use Rattle.frozen.specs.Sites.{Parts, accounts, degree, taker, given, certificates_of}
 use Rattle.frozen.specs.Revision.{Revision, certificates}
 use Rattle.split_graph.specs.declared.split_arcs.SplitArc.{SplitArc}
 use Rattle.split_flow.specs.Split.{SplitNode, InHalf, OutHalf, Supersink, IsNode}
 use Rattle.split_graph.specs.Numbers.{node_number, node_count}
 use Rattle.split_graph.specs.Arcs.{blank, AreArcs, LeadsTo}
-use Rattle.split_graph.specs.inner.SplitArcs.{arc_from, through_arc, split_arcs}
+use Rattle.split_graph.specs.inner.SplitArcs.{joined_below, arc_from, through_arc, own_arcs, edge_arc, seed_arcs, cert_arcs, row_arcs, split_arcs}
 use Rattle.split_graph.specs.inner.Layout.{Table, arc_at, ends_at, Joins, AreSplitArcs, IsLaidOut, IsArcAt, ArePlaced}
-use Rattle.split_graph.specs.Network.{AreInPlace, seeds_before, IsTaker}
+use Rattle.split_graph.specs.Network.{AreInPlace, seeds_before, given_count, IsTaker}
 use Rattle.split_graph.specs.inner.Held.{arcs_in}
 use Rattle.split_graph.proofs.Places.{first_more, place_of, placed_before}
 use Rattle.split_graph.proofs.Counts.{places-all}
@@ -146,6 +148,37 @@ along_place l (Account a) i b taken =
     subst (λ (k : ℕ). LeadsTo (arcs_in l.n l.t) (OutHalf (Account a)) (InHalf (Account k)) (get_or l.t.first (node_number (OutHalf (Account a))) 0 + (i + 1))) taken.2
     (leads_at l (OutHalf (Account a)) (InHalf (Account (taker l.graph.parts a i))) (i + 1) (omega (arith, taken.0)) (cert_at (listing l) a i taken.0 taken.1))
 
+length-joined : (n : ℕ) (f : ℕ → List SplitArc) → length (joined_below n f) ≡ sum_below n (λ i. length (f i))
+length-joined zero f = refl
+length-joined (suc n) f = omega (arith, length-append (joined_below n f) (f n), length-joined n f)
+
+own_two : (n : ℕ) → sum_below n (λ a. length (own_arcs a)) ≡ 2 * n
+own_two zero = refl
+own_two (suc n) = omega (arith, own_two n)
+
+cert_one : (r : Parts) (a n : ℕ) → sum_below n (λ i. length (cert_arcs r a i)) ≡ n
+cert_one r a zero = refl
+cert_one r a (suc n) = omega (arith, cert_one r a n)
+
+seed_one : (p : Bool) (x : SplitArc) → length (if p then x ∷ [] else []) ≡ (if p then 1 else 0)
+seed_one true x = refl
+seed_one false x = refl
+
+-- how many arcs are listed
+length-split_arcs : (r : Parts) → length (split_arcs r) ≡ 2 * accounts r + given_count r Root + sum_below (accounts r) (degree r) + 1
+length-split_arcs r =
+    let n : ℕ = accounts r in
+    let own : List SplitArc = joined_below n own_arcs in
+    let seeds : List SplitArc = joined_below n (seed_arcs r) in
+    let certs : List SplitArc = joined_below n (row_arcs r) in
+    let root : List SplitArc = through_arc Root ∷ [] in
+    let seed_lengths : length seeds ≡ given_count r Root =
+    length-joined n (seed_arcs r) ∙ sum_below-eq n (λ b. length (seed_arcs r b)) (λ b. if (certificates_of r).is_seed b then 1 else 0) (λ b below. seed_one ((certificates_of r).is_seed b) (edge_arc Root b)) in
+    let cert_lengths : length certs ≡ sum_below n (degree r) =
+    length-joined n (row_arcs r) ∙ sum_below-eq n (λ a. length (row_arcs r a)) (degree r) (λ a below. length-joined (degree r a) (cert_arcs r a) ∙ cert_one r a (degree r a)) in
+    let own_lengths : length own ≡ 2 * n = length-joined n own_arcs ∙ own_two n in
+    omega (arith, length-append ((root ++ own) ++ seeds) certs, length-append (root ++ own) seeds, length-append root own, own_lengths, seed_lengths, cert_lengths)
+
 pub in_place : (l : Loading) → AreInPlace l.graph.parts (arcs_in l.n l.t)
 in_place l = record {
   through = through_each l;
@@ -153,5 +186,6 @@ in_place l = record {
       let all : List SplitArc → ℕ = λ arcs. all_ends arcs 1 in
       omega (arith, l.laid.goes_on 1 (omega arith), ap all l.listed, ends-root (listing l));
   ends = λ b below. leads_at l (InHalf (Account b)) Supersink 1 (omega arith) (end_at (listing l) b below);
+  number = places-all (node_count l.n) l.arcs l.t.first (are_listed l) l.laid ∙ omega (arith, ap length l.listed, length-split_arcs l.graph.parts);
   along = along_place l;
 }

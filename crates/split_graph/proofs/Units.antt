@@ -191,6 +191,7 @@ still_in_place r a rests are = record {
   through = λ x is. still_leads a rests _ _ _ (are.through x is);
   only = are.only;
   ends = λ b below. still_leads a rests _ _ _ (are.ends b below);
+  number = are.number;
   along = λ x i b taken. still_leads a rests _ _ _ (are.along x i b taken);
 }
 

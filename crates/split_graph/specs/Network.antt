@@ -1,5 +1,5 @@
 -- What contracts see of a residual graph: the graph and the level that were loaded, and what rests of their split graph.
-use Rattle.std.specs.Prelude.{ℕ, ◌≡◌, ◌<◌, ◌≤◌, ◌+◌, if◌then◌else◌, [], length, IsTrue, Option, Some}
+use Rattle.std.specs.Prelude.{ℕ, ◌≡◌, ◌<◌, ◌≤◌, ◌+◌, ◌*◌, if◌then◌else◌, [], IsTrue, Option, Some}
 use Rattle.std.specs.Option.{option_map_or}
 use Rattle.trust_types.specs.declared.levels.Level.{Level}
 use Rattle.trust_types.specs.declared.accounts.Node.{Node}
@@ -10,10 +10,10 @@ use Rattle.trust_types.specs.Tables.{IsTable}
 use Rattle.trust_types.specs.Rows.{GivesEachOnce}
 use Rattle.frozen.specs.Sites.{Parts, accounts, degree, taker, given, certificates_of, certs}
 use Rattle.frozen.specs.Revision.{Revision, certificates}
-use Rattle.split_flow.specs.Split.{InHalf, OutHalf, Supersink, source, IsNode}
-use Rattle.split_flow.specs.Moved.{RestsOf}
+use Rattle.split_flow.specs.Split.{SplitNode, InHalf, OutHalf, Supersink, source, Rests, IsNode}
+use Rattle.split_flow.specs.Moved.{RestsOf, units_moved}
 use Rattle.split_graph.specs.Numbers.{node_number}
-use Rattle.split_graph.specs.Arcs.{Arcs, blank, AreArcs, IsSameGraph, LeadsTo, first_of, between}
+use Rattle.split_graph.specs.Arcs.{Arcs, blank, AreArcs, IsSameGraph, LeadsTo, arc_count, first_of, between}
 
 -- For how many accounts and certificates there is room.
 pub record Room : Type 0 where
@@ -66,12 +66,18 @@ arc_along a x i = first_of a (node_number (OutHalf x)) + (i + 1)
 abbrev pub arc_to_supersink : Arcs → ℕ → ℕ
 arc_to_supersink a b = first_of a (node_number (InHalf (Account b))) + 1
 
+-- How many residual arcs there are: two for each arc of the split graph, which has two for each account, one for each seed and each
+-- certificate, and the root's.
+abbrev pub residual_count : Parts → ℕ
+residual_count r = 2 * (2 * accounts r + given_count r Root + sum_below (accounts r) (degree r) + 1)
+
 -- Where the arcs are. The first one out of a node's first half goes through the node, and that of the root is the only one; the
 -- second one of an account goes to the supersink.
 pub record AreInPlace (r : Parts) (a : Arcs) : Type 0 where
   pub through : (x : Node) → IsNode (accounts r) x → LeadsTo a (InHalf x) (OutHalf x) (first_of a (node_number (InHalf x)))
   pub only : first_of a (node_number (OutHalf Root)) ≡ first_of a (node_number source) + 1
   pub ends : (b : ℕ) → b < accounts r → LeadsTo a (InHalf (Account b)) Supersink (arc_to_supersink a b)
+  pub number : arc_count a ≡ residual_count r
   pub along : (x : Node) (i b : ℕ) → IsTaker r x i b → LeadsTo a (OutHalf x) (InHalf (Account b)) (arc_along a x i)
 
 -- The arcs of a graph are laid out, whatever rests on them.
@@ -95,3 +101,8 @@ pub record StandsFor (n : Network) : Type 0 where
   pub accounts : n.arcs.accounts ≡ (certificates graph).accounts
   pub places : AreInPlace graph.parts n.arcs
   pub rests : RestsOf (certificates graph) level graph.caps (between n.arcs)
+
+-- The units on an arc along an edge; 0 on one that goes through a node or to the supersink, and on one that leads back.
+abbrev pub units_on : Rests → SplitNode → SplitNode → ℕ
+units_on r (OutHalf x) (InHalf (Account b)) = units_moved r x b
+units_on r u v = 0

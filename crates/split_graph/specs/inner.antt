@@ -2,3 +2,4 @@ pub mod Layout
 pub mod SplitArcs
 pub mod Held
 pub mod Capacities
+pub mod Edges

@@ -7,5 +7,5 @@ mod residual_graph;
 mod split_arcs;
 mod split_nodes;
 
-pub use residual_graph::Residual;
+pub use residual_graph::{ArcView, Residual};
 pub use split_nodes::{SOURCE, entered_account, in_half, out_half};

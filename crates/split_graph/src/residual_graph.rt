@@ -1,6 +1,6 @@
 //! The residual graph: what may still be moved through a split graph.
 
-ghost use Rattle.std.specs.Prelude.{ℕ, ◌≡◌, ◌<◌, ◌≤◌, ◌+◌, ◌^◌, length, IfOk, Some, None};
+ghost use Rattle.std.specs.Prelude.{ℕ, ◌≡◌, ◌<◌, ◌≤◌, ◌+◌, ◌^◌, nat_lt, length, slice_index, IfOk, Some, None};
 ghost use Rattle.trust_types.specs.declared.levels.Level.{Level};
 ghost use Rattle.trust_types.specs.declared.accounts.Node.TheVariants.{Account};
 ghost use Rattle.trust_types.specs.Levels.{IsGrade};
@@ -11,16 +11,26 @@ ghost use Rattle.split_flow.specs.Split.{SplitNode, InHalf, OutHalf, Supersink, 
 ghost use Rattle.split_flow.specs.Moved.{IsOneMoved};
 ghost use Rattle.split_graph.specs.Numbers.{node_count};
 ghost use Rattle.split_graph.specs.Arcs.{IsSameGraph, arc_count, first_of, head_of, rest_of, between, move_one, LeadsTo};
-ghost use Rattle.split_graph.specs.Network.{Fits, IsLaidFor, StandsFor, rows_of, given_count, IsTaker, arc_along, arc_to_supersink};
+ghost use Rattle.split_graph.specs.Network.{Fits, IsLaidFor, StandsFor, rows_of, given_count, IsTaker, arc_along, arc_to_supersink, units_on};
 
 use crate::arc_table::ArcTable;
 use crate::split_arcs::{SplitArc, list_arcs};
-use crate::split_nodes::{in_half, out_half};
+use crate::split_nodes::{in_half, is_along_edge, out_half};
 use frozen::Frozen;
 use std::alloc::Global;
 use std::marker::Model;
 use std::snapshot::Snapshot;
-use trust_types::{AccountNo, CertGraph, Level, NoMemory, Node};
+use std::sync::ledger::Ledger;
+use trust_types::{AccountNo, CertGraph, Level, NoMemory, Node, Steps};
+
+/// What a look at an arc tells.
+#[derive(Clone, Copy, Drop)]
+pub struct ArcView {
+    /// Whether a unit can be moved along it.
+    pub passable: bool,
+    /// The split node that it enters.
+    pub head: u32,
+}
 
 /// What may still be moved along the arcs of Levien's split graph of a site at a level. Contracts see the room that was
 /// reserved, the graph that is laid out and the level that was loaded, and the arcs with what rests on each. Split nodes are told by number, as
@@ -131,6 +141,49 @@ impl Residual {
         ensures { result ≡ first_of self.now.arcs node }
     {
         self.table.first(node)
+    }
+
+    /// Looks at an arc, which is one step.
+    pub fn look<L: Ledger>(&self, arc: u32, steps: &mut Steps<L>) -> ArcView
+        requires stands { StandsFor self.now }
+        requires arc { arc < arc_count self.now.arcs }
+        ensures passable { result.passable ≡ nat_lt 0 (rest_of self.now.arcs arc) }
+        ensures head { result.head ≡ head_of self.now.arcs arc }
+        ensures step { steps.new ≡ steps.old + 1 }
+    {
+        steps.tick();
+        ArcView {
+            passable: self.table.rest(arc) > 0,
+            head: self.table.head(arc),
+        }
+    }
+
+    /// The units on an arc along an edge, which may be moved back; 0 on any other.
+    fn units_on(&self, arc: u32) -> u32
+        requires stands { StandsFor self.now }
+        requires arc { arc < arc_count self.now.arcs }
+        ensures { (u v : SplitNode) → LeadsTo self.now.arcs u v arc → result ≡ units_on (between self.now.arcs) u v }
+    {
+        let twin = self.table.twin(arc);
+        let tail = self.table.head(twin);
+        if is_along_edge(tail, self.table.head(arc)) {
+            return self.table.rest(twin);
+        }
+        0
+    }
+
+    /// Writes the units on each arc along a certificate or from the root to a seed into the place of that arc, and 0 into those of all
+    /// others. It is as many steps as there are arcs.
+    pub fn unload<L: Ledger>(&self, units: &mut [u32], steps: &mut Steps<L>)
+        requires stands { StandsFor self.now }
+        requires places { arc_count self.now.arcs ≤ length units.old }
+        ensures units { (u v : SplitNode) (arc : ℕ) → LeadsTo self.now.arcs u v arc → slice_index units.new arc ≡ units_on (between self.now.arcs) u v }
+        ensures steps { steps.new ≡ steps.old + arc_count self.now.arcs }
+    {
+        for arc in 0..self.first(2 * self.accounts + 3) {
+            steps.tick();
+            units[arc as usize] = self.units_on(arc);
+        }
     }
 
     /// The split node that an arc enters.

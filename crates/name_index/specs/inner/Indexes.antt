@@ -1,4 +1,4 @@
--- How an index holds names: their numbers by spread key, in a table and a map. The crate's own functions alone speak of it.
+-- How an index holds names: their numbers by spread key, in a table and a map. Other crates see of it `AreNumbersOf` alone.
 use Rattle.std.specs.Prelude.{ℕ, ◌≡◌, ◌≤◌, ◌*◌, ◌%◌, ◌^◌, List, Some, None, All, length}
 use Rattle.std.specs.Ordering.{nat_cmp}
 use Rattle.std.specs.BTreeMap as tree

@@ -1,0 +1,11 @@
+pub mod Lines
+pub mod HeadEnd
+pub mod Scans
+pub mod Heads
+pub mod Fields
+pub mod Refusals
+pub mod Bodies
+pub mod Parts
+pub mod Cookies
+pub mod Closing
+pub mod Laws

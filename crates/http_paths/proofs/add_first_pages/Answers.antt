@@ -1,0 +1,5 @@
+use Rattle.std.proofs.Common.{refl}
+use Rattle.http_paths.proofs.add_first_pages.Goals as goal
+
+pub returns : goal.returns
+returns c = rw (c.in_ok-add_page-4.ensures, c.in_ok-add_page-3.ensures, c.in_ok-add_page-2.ensures, c.in_ok-add_page.ensures) refl

@@ -1,0 +1,6 @@
+pub mod Forms
+pub mod Pages
+pub mod Actions
+pub mod Requests
+pub mod Progress
+pub mod Laws

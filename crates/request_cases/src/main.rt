@@ -1,0 +1,140 @@
+//! Shows what bytes ask for. The input has blocks, each ended by an empty line: the first line says what the block shows, and each further
+//! one is what a client sent. In it `\r`, `\n` and `\\` stand for CR, LF and a backslash. With a number behind the backslash, as `\64n`, the
+//! byte stands there so many times, as any other does: `\64x`. The output has the same lines, and under each what the bytes ask for; in a block
+//! that begins with `reads: `, how often they were a request when they were read a thousand times.
+#![tactic(auto)]
+
+use anyhow::{Result, bail};
+use http_requests::{Next, Request, Route, next_request};
+use std::alloc::Global;
+use std::io::{self, BufRead, BufReader, BufWriter, Write};
+
+const TIMES: u32 = 1_000;
+
+/// What stands before a byte of a line.
+#[derive(Clone, Copy)]
+enum Before {
+    Plain,
+    /// A backslash, and a number behind it.
+    Backslash(u32),
+}
+
+/// What a byte behind a backslash stands for.
+fn meant(byte: u8) -> u8 {
+    match byte {
+        b'r' => b'\r',
+        b'n' => b'\n',
+        _ => byte,
+    }
+}
+
+/// Adds what a byte stands for, and gives what it is to the next one.
+fn push_byte(bytes: &mut Vec<u8>, before: Before, byte: u8) -> Result<Before> {
+    match before {
+        Before::Plain if byte == b'\\' => return Ok(Before::Backslash(0)),
+        Before::Plain => bytes.push(byte)?,
+        Before::Backslash(times) if byte.is_ascii_digit() => {
+            let more = times.saturating_mul(10).saturating_add((byte - b'0') as u32);
+            return Ok(Before::Backslash(more));
+        }
+        Before::Backslash(times) => {
+            for _ in 0..times.max(1) {
+                bytes.push(meant(byte))?;
+            }
+        }
+    }
+    Ok(Before::Plain)
+}
+
+/// The bytes that a line stands for.
+fn bytes_of(alloc: Global, line: &str) -> Result<Vec<u8>> {
+    let mut bytes = Vec::new(alloc);
+    let mut before = Before::Plain;
+    for byte in line.as_bytes() {
+        before = push_byte(&mut bytes, before, *byte)?;
+    }
+    Ok(bytes)
+}
+
+/// What is asked for, in words.
+fn route_text(alloc: Global, route: &Route) -> Result<String> {
+    match route {
+        Route::Table { caps } => {
+            let levels = caps.levels();
+            let entries = caps.entries();
+            Ok(format!(in alloc; "Table of {levels} levels, {entries:?}")?)
+        }
+        _ => Ok(format!(in alloc; "{route:?}")?),
+    }
+}
+
+/// Writes a request in words.
+fn write_request(
+    alloc: Global,
+    request: &Request,
+    used: usize,
+    out: &mut impl Write,
+) -> Result<()> {
+    out.write_all(format!(in alloc; "    {used} bytes: ")?.as_bytes())?;
+    out.write_all(route_text(alloc, &request.route)?.as_bytes())?;
+    if let Some((name, token)) = &request.session {
+        let name = name.as_str();
+        let token = token.0;
+        out.write_all(format!(in alloc; ", by {name} with {token:?}")?.as_bytes())?;
+    }
+    if request.bare {
+        out.write_all(b", without the body of the answer")?;
+    }
+    if request.close {
+        out.write_all(b", then close")?;
+    }
+    out.write_all(b"\n")?;
+    Ok(())
+}
+
+/// Writes what the bytes of a line ask for.
+fn show(alloc: Global, line: &str, out: &mut impl Write) -> Result<()> {
+    let bytes = bytes_of(alloc, line)?;
+    match next_request(alloc, &bytes) {
+        Next::Whole(request, used) => write_request(alloc, &request, used, out),
+        Next::NeedMore => Ok(out.write_all(b"    more bytes are needed\n")?),
+        Next::Bad(status) => {
+            Ok(out.write_all(format!(in alloc; "    refused with {status}\n")?.as_bytes())?)
+        }
+        Next::NoMemory => bail!("out of memory"),
+    }
+}
+
+/// Writes how often the bytes of a line are a request when they are read a thousand times.
+fn show_often(alloc: Global, line: &str, out: &mut impl Write) -> Result<()> {
+    let bytes = bytes_of(alloc, line)?;
+    let mut requests: u64 = 0;
+    for _ in 0..TIMES {
+        let is_whole = matches!(next_request(alloc, &bytes), Next::Whole(_, _));
+        requests = requests.saturating_add(is_whole as u64);
+    }
+    out.write_all(format!(in alloc; "    {requests}\n")?.as_bytes())?;
+    Ok(())
+}
+
+fn main(rt: HostRuntime) -> Result<()> {
+    let alloc = rt.alloc();
+    let mut out = BufWriter::new(alloc, io::writer(&rt))?;
+    let mut is_heading = true;
+    let mut is_often = false;
+    for line in BufReader::new(alloc, rt.reader())?.lines(alloc) {
+        let line = line?;
+        out.write_all(line.as_bytes())?;
+        out.write_all(b"\n")?;
+        if is_heading {
+            is_often = line.starts_with("reads: ");
+        } else if is_often && !line.is_empty() {
+            show_often(alloc, line.as_str(), &mut out)?;
+        } else if !line.is_empty() {
+            show(alloc, line.as_str(), &mut out)?;
+        }
+        is_heading = line.is_empty();
+    }
+    out.flush()?;
+    Ok(())
+}
