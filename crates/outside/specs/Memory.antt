@@ -1,5 +1,5 @@
--- What the sources and sinks in memory are, and what their calls make of them.
-use Rattle.std.specs.Prelude.{ℕ, ◌-◌, ◌==◌, if◌then◌else◌, min, List, [], ◌++◌, length, drop}
+-- What the sources, sinks and keepers in memory are, and what their calls make of them.
+use Rattle.std.specs.Prelude.{ℕ, ◌-◌, ◌==◌, if◌then◌else◌, min, List, [], ◌∷◌, ◌++◌, length, drop}
 use Rattle.outside.specs.Calls.{Calls, no_calls, with_served, with_failed}
 use Rattle.outside.specs.Causes.{one_more}
 
@@ -56,3 +56,24 @@ after_write store bytes = record store {
 -- a sink after a write that failed
 abbrev pub after_failed_write : Store → Store
 after_failed_write store = record store { calls = with_failed store.calls }
+
+-- a keeper: the rows kept, and its calls
+pub record Archive : Type 0 where
+  pub rows : List (List ℕ)
+  pub calls : Calls
+
+-- a keeper on which no call was made yet
+abbrev pub new_archive : List (List ℕ) → List ℕ → Archive
+new_archive rows fails = record { rows = rows; calls = no_calls fails }
+
+-- a keeper after an append that added this row
+abbrev pub after_append : Archive → List ℕ → Archive
+after_append archive row = record { rows = archive.rows ++ row ∷ []; calls = with_served archive.calls }
+
+-- a keeper after a call that left its rows as they were, and didn't fail
+abbrev pub after_fetch : Archive → Archive
+after_fetch archive = record archive { calls = with_served archive.calls }
+
+-- a keeper after a call that failed
+abbrev pub after_failed_keeping : Archive → Archive
+after_failed_keeping archive = record archive { calls = with_failed archive.calls }

@@ -5,6 +5,8 @@ mod calls;
 mod counted;
 mod counts;
 mod failed;
+mod keeper;
+mod mem_keeper;
 mod mem_sink;
 mod mem_source;
 mod reading;
@@ -14,6 +16,8 @@ mod standard;
 mod writing;
 
 pub use failed::Failed;
+pub use keeper::{Fetched, KeepFault, Keeper};
+pub use mem_keeper::MemKeeper;
 pub use mem_sink::MemSink;
 pub use mem_source::MemSource;
 pub use reading::{InputFault, read_to_end};
