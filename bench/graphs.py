@@ -1,10 +1,11 @@
 #!/usr/bin/env python3
-"""Site texts at the limits, for benches: 100,000 accounts, about 2,000,000 certificates and the default table.
+"""Site texts at the limits, for benches: 100,000 accounts and about 2,000,000 certificates.
 
     bench/graphs.py KIND > FILE
 
-The kinds are those of `KINDS`. The lines stand in canonical order, the first accounts are the seeds, and the levels are drawn
-among the three grades of a table of four levels. A kind gives the same text each time.
+The kinds are those of `KINDS`. The lines stand in canonical order, the first accounts are the seeds, the table is the default one, and the
+levels are drawn among the three grades of a table of four levels. The last two kinds are made to hurt an engine that searches anew for
+each unit: their tables have greater entries, and the star is small. A kind gives the same text each time.
 """
 
 import random
@@ -16,14 +17,14 @@ SEEDS = 4
 LEVELS = ("Apprentice", "Journeyer", "Master")
 
 
-def write_site(out, takers):
+def write_site(out, takers, caps="default", accounts=ACCOUNTS, seeds=SEEDS, levels=LEVELS):
     """Writes the site whose accounts certify these others: for each account in order, takers in rising order."""
     draw = random.Random(2)
-    out.write("caps default\n")
-    out.writelines(f"account u{number}\n" for number in range(ACCOUNTS))
-    out.writelines(f"seed u{number}\n" for number in range(SEEDS))
+    out.write(f"caps {caps}\n")
+    out.writelines(f"account u{number}\n" for number in range(accounts))
+    out.writelines(f"seed u{number}\n" for number in range(seeds))
     for giver, row in enumerate(takers):
-        out.writelines(f"cert u{giver} u{taker} {draw.choice(LEVELS)}\n" for taker in row)
+        out.writelines(f"cert u{giver} u{taker} {draw.choice(levels)}\n" for taker in row)
 
 
 def random_site(out):
@@ -80,12 +81,31 @@ def clique_site(out, clique=1_400):
     write_site(out, rows)
 
 
+def spread_site(out, reach=200):
+    """One seed, and each account certifies others not far from it, under a table of fifteen entries of 2,000: units spread out over ways that are
+    longer and longer, and each search for one of them looks at all that the others have filled."""
+    draw = random.Random(3)
+
+    def row(giver):
+        near = {giver + draw.randrange(-reach, reach + 1) for _ in range(EACH)}
+        return sorted(taker for taker in near if taker != giver and 0 <= taker < ACCOUNTS)
+
+    write_site(out, map(row, range(ACCOUNTS)), caps=" ".join(["2000"] * 15 + ["1"]), seeds=1)
+
+
+def star_site(out, accounts=2_000):
+    """One seed that certifies all others as Master, and a capacity for each of them."""
+    write_site(out, [range(1, accounts)], caps="2000 2000 1", accounts=accounts, seeds=1, levels=("Master",))
+
+
 KINDS = {
     "random": random_site,
     "neighbours": neighbours_site,
     "hubs": hubs_site,
     "groups": groups_site,
     "clique": clique_site,
+    "spread": spread_site,
+    "star": star_site,
 }
 
 

@@ -3,15 +3,15 @@
 
     bench/rosters.py [RUNS [BUILD ..]]
 
-The sites are those of `graphs.py`, one of each kind, with 100,000 accounts and about 2,000,000 certificates. For each kind it
+The sites are those of `graphs.py`, one of each kind, with 100,000 accounts and about 2,000,000 certificates but for the star. For each kind it
 shows the user seconds of both programs, those of virgule also as a part of the other's (the aim is at most a half), and for LEMON's
 also those of its three solves alone; the most memory that each one held, that of virgule also as a multiple of the text's size
 (the aim is at most six); and whether both accept equally many accounts at each level. Then `check` reads the audit of one of these
 sites, beside `sha256sum` on it. Nothing depends on these numbers.
 
 The programs run in turn, each so many times (3 where none is named), and the least time and the most memory are shown. Other builds of
-virgule that are named by their paths run among them: behind each line stand the user seconds and the memory of each, and whether it wrote
-the same bytes.
+virgule that are named by their paths run among them: behind each line stand the user seconds of each, how many times ours they are, its memory,
+and whether it wrote the same bytes.
 virgule is built first where it has to be; the other needs `g++` and LEMON's headers (Debian's `liblemon-dev`).
 """
 
@@ -51,7 +51,9 @@ def print_rosters(kind, text, other, builds, runs):
         f"{kind:<10} {size:7.1f} {ours.user:9.2f} {ours.user / theirs.user:6.2f} {ours.memory:8.1f} {ours.memory / size:6.1f}"
         f" {theirs.user:9.2f} {solves:7.2f} {theirs.memory:8.1f}"
         f"   {' '.join(number for _, number in found)} {agree}"
-        + "".join(f"   {run.user:.2f} {run.memory:.1f} {'the same' if run.output == ours.output else 'DIFFERS'}" for run in others),
+        + "".join(
+            f"   {run.user:.2f} ({run.user / ours.user:.2f}) {run.memory:.1f} {'the same' if run.output == ours.output else 'DIFFERS'}" for run in others
+        ),
         flush=True,
     )
 

@@ -6,3 +6,5 @@ mod Pushing
 mod Lasts
 mod Rounds
 mod Counting
+mod Results
+mod Readings

@@ -1,3 +1,4 @@
 pub mod Reached
 pub mod Ways
 pub mod Passed
+pub mod Held

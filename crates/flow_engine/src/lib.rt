@@ -3,7 +3,8 @@
 
 mod phases;
 mod reaching;
+mod reading;
 mod serving;
+mod solving;
 
-pub use phases::send_all;
-pub use reaching::Search;
+pub use solving::Workspace;

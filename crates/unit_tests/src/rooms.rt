@@ -1,13 +1,14 @@
 ghost use Rattle.std.specs.Prelude.{◌≡◌, ◌<◌, Some};
 ghost use Rattle.trust_types.specs.Levels.{IsGrade};
 ghost use Rattle.frozen.specs.Revision.{certificates};
+ghost use Rattle.split_graph.specs.Arcs.{arc_count};
 ghost use Rattle.split_graph.specs.Network.{Fits, StandsFor};
 
 use crate::sites::{crowd, site};
 use distances::{Queue, capacities};
 use flow_engine::Workspace;
 use frozen::Frozen;
-use split_graph::Residual;
+use split_graph::{ArcView, Residual};
 use std::marker::Brand;
 use std::sync::ledger::{Blank, Ledger};
 use std::test::Fail;
@@ -42,39 +43,36 @@ fn a_workspace_may_have_more_room_than_a_site_needs(rt: HostRuntime) -> Result<(
     Ok(())
 }
 
-/// What an arc without a bound counts as.
-const NO_BOUND: u32 = 4_294_967_295;
-
 /// The first arc of each split node of the site below, and the number of arcs.
 const FIRSTS: [u32; 10] = [0, 3, 4, 6, 9, 12, 15, 16, 19, 20];
 
-/// The split node that each arc enters, by number, and what rests on it at Master.
-const ARCS: [(u32, u32); 20] = [
+/// The split node that each arc enters, by number, and whether a unit can be moved along it at Master.
+const ARCS: [(u32, bool); 20] = [
     // back out of the supersink
-    (3, 0),
-    (5, 0),
-    (7, 0),
+    (3, false),
+    (5, false),
+    (7, false),
     // of the root's halves: through it and back, and to the seed
-    (2, 799),
-    (1, 0),
-    (3, NO_BOUND),
+    (2, true),
+    (1, false),
+    (3, true),
     // of the seed's: through it, to the supersink, back to the root; back through it, and to the two that it certifies
-    (4, 199),
-    (0, 1),
-    (2, 0),
-    (3, 0),
-    (5, NO_BOUND),
-    (7, 0),
+    (4, true),
+    (0, true),
+    (2, false),
+    (3, false),
+    (5, true),
+    (7, false),
     // of those of the one that it certifies as Master
-    (6, 49),
-    (0, 1),
-    (4, 0),
-    (5, 0),
+    (6, true),
+    (0, true),
+    (4, false),
+    (5, false),
     // and as Apprentice: it has no capacity
-    (8, 0),
-    (0, 1),
-    (4, 0),
-    (7, 0),
+    (8, false),
+    (0, true),
+    (4, false),
+    (7, false),
 ];
 
 /// Loads a site of three accounts at a level, with its capacities there.
@@ -91,6 +89,18 @@ fn load(frozen: &Frozen, level: Level, queue: &mut Queue, residual: &mut Residua
     capacities(frozen, level, frozen.caps(), &mut caps_of, queue);
     residual.lay_out(frozen);
     residual.load(frozen, level, &caps_of);
+}
+
+/// Looks at an arc.
+fn look_at<L: Ledger>(residual: &Residual, arc: u32, blank: Blank) -> ArcView
+    requires name { blank.name ≡ L.name }
+    requires parts { blank.parts ≡ L.parts }
+    requires some { 0 < blank.parts }
+    requires stands { StandsFor residual.now }
+    requires arc { arc < arc_count residual.now.arcs }
+{
+    let mut steps = Steps::<L>::new(blank);
+    residual.look(arc, &mut steps)
 }
 
 #[test]
@@ -115,9 +125,10 @@ fn a_level_has_its_arcs(rt: HostRuntime) -> Result<(), Fail> {
         return Err("twenty arcs".into());
     }
     for arc in 0..20 {
-        let (head, rest) = ARCS[arc as usize];
-        assert_eq!(rt; residual.head(arc), head, "along arc {arc}");
-        assert_eq!(rt; residual.rest(arc), rest, "along arc {arc}");
+        let (head, passable) = ARCS[arc as usize];
+        let view = look_at::<Brand>(&residual, arc, Blank::new(1));
+        assert_eq!(rt; view.head, head, "along arc {arc}");
+        assert_eq!(rt; view.passable, passable, "along arc {arc}");
     }
     Ok(())
 }

@@ -1,0 +1,4 @@
+use Rattle.unit_tests.proofs.rooms.a_level_has_its_arcs.Given as goal
+
+abbrev pub ghosts-look_at : goal.ghosts-look_at
+ghosts-look_at g a = record { name = a.blank.name; parts = a.blank.parts }
