@@ -84,6 +84,13 @@ impl Blocks {
         block_of(&self.slots[(account.0 / 64) as usize])
     }
 
+    pub(crate) fn standing(&self, from: AccountNo, to: AccountNo) -> Level
+        requires { from < accounts self.now.parts }
+        ensures { result ≡ standing self.now.parts from to }
+    {
+        self.block(from).standing(from.0 % 64, to)
+    }
+
     /// Makes the block ready that has the account, or that it is to join. It copies the block where that is shared.
     pub(crate) fn reserve<L: Ledger>(&mut self, account: u32, steps: &mut Steps<L>) -> Result<(), NoMemory>
         requires { account ≤ accounts self.old.parts }
@@ -208,7 +215,7 @@ impl Blocks {
         ensures put { IsAfter (Certified (record { from = author; to = subject; level = level })) self.old.parts self.new.parts }
         ensures steps { steps.new ≡ steps.old + 1 }
     {
-        let before = self.block(author).standing(author.0 % 64, subject);
+        let before = self.standing(author, subject);
         let cert = Cert {
             from: author,
             to: subject,

@@ -140,7 +140,7 @@ impl CertBook {
         requires { IsAccount (book self.now) from }
         ensures { result ≡ (book self.now).standing from to }
     {
-        self.blocks.block(from).standing(from.0 % 64, to)
+        self.blocks.standing(from, to)
     }
 
     /// How many accounts stand certified by this one.

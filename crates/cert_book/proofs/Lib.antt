@@ -1,0 +1,9 @@
+mod Lists
+mod Putting
+mod Sharing
+mod Entering
+mod Marking
+mod Joining
+mod Adding
+mod Listing
+mod Rising
