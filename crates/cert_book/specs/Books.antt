@@ -7,11 +7,11 @@ use Rattle.trust_types.specs.declared.limits.TheConstants.{MOST_ACCOUNTS, MOST_C
 use Rattle.trust_types.specs.declared.records.Record.{Record}
 use Rattle.trust_types.specs.Levels.{is_grade}
 use Rattle.trust_types.specs.Tables.{Table, has_level}
-use Rattle.trust_types.specs.Graph.{Certificates}
 use Rattle.trust_types.specs.Changes.{Change, Joined, Seeded, Unseeded, Certified, Tabled, names, seed_among, table_among, certs_among, standing_among, standing_count}
 use Rattle.trust_types.specs.Kept as kept
 use Rattle.frozen.specs.Writes.{graded}
 use Rattle.frozen.specs.Revision.{Revision, certificates}
+use Rattle.frozen.specs.Sites.{certs}
 use Rattle.cert_book.specs.declared.rooms.Room.{Room}
 
 -- What a book says of a site.
@@ -43,10 +43,21 @@ book_of opening changes = record {
 abbrev pub Adds : Book → Book → Change → Type 0
 Adds old new change = (opening : Table) (changes : List Change) → old ≡ book_of opening changes → new ≡ book_of opening (changes ++ change ∷ [])
 
--- What contracts see of a `CertBook`: what it says, and for which addition there is room.
-pub record BookWithRoom : Type 0 where
-  pub book : Book
+-- What contracts see of a `CertBook`: the revision that it stands at, and for which addition there is room.
+pub record Held : Type 0 where
+  pub revision : Revision
   pub room : Option Room
+
+-- What it says.
+abbrev pub book : Held → Book
+book held = record {
+  revision = held.revision.number;
+  table = held.revision.caps;
+  names = held.revision.names;
+  is_seed = (certificates held.revision).is_seed;
+  standing = (certificates held.revision).standing;
+  certs = certs held.revision.parts;
+}
 
 abbrev pub IsAccount : Book → ℕ → Type 0
 IsAccount b a = a < length b.names
@@ -83,19 +94,8 @@ HasPlace b (Unseeded a) = Unit {0}
 HasPlace b (Certified c) = b.certs + graded c.level ≤ MOST_CERTS + graded (b.standing c.from c.to)
 HasPlace b (Tabled table) = Unit {0}
 
--- What the metric reads of a book.
-abbrev pub certificates_in : Book → Certificates
-certificates_in b = record { accounts = length b.names; is_seed = b.is_seed; standing = b.standing }
-
--- A frozen graph is that of a book, with its names, the number of its revision and the table in force.
-pub record Freezes (b : Book) (r : Revision) : Type 0 where
-  pub graph : certificates r ≡ certificates_in b
-  pub names : r.names ≡ b.names
-  pub number : r.number ≡ b.revision
-  pub table : r.caps ≡ b.table
-
 -- A frozen graph is that of kept records, with their names, the number of their revision and the table in force.
-pub record FreezesRecords (opening : Table) (k : List Record) (r : Revision) : Type 0 where
+pub record Freezes (opening : Table) (k : List Record) (r : Revision) : Type 0 where
   pub graph : kept.IsGraph k (certificates r)
   pub names : r.names ≡ kept.accounts k
   pub number : r.number ≡ kept.revision k

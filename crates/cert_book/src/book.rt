@@ -10,7 +10,7 @@ ghost use Rattle.frozen.specs.Sites.{parts_for};
 ghost use Rattle.name_index.specs.Numbers.{AreNumbersOf};
 ghost use Rattle.cert_book.specs.inner.Keeping.{written, HasRoomBeside};
 ghost use Rattle.cert_book.specs.inner.Takings.{givers_of};
-ghost use Rattle.cert_book.specs.Books.{book_of, Adds, IsAccount, given, taken, Follows, HasPlace, Freezes, FreezesRecords};
+ghost use Rattle.cert_book.specs.Books.{book, book_of, Adds, IsAccount, given, taken, Follows, HasPlace, Freezes};
 ghost use Rattle.cert_book.specs.Judged.{known, judged_name, judged_seeding, judged_unseeding, judged_certifying, judged_join, judged_seed, judged_unseed, judged_cert, judged_table};
 
 use crate::blocks::Blocks;
@@ -28,7 +28,7 @@ use trust_types::{
 };
 
 /// A site's memory of its certificates: the accounts, which of them are seeds, who stands certified by whom, and the capacity table in force.
-/// Contracts see what it says, and for which addition there is room.
+/// Contracts see the revision that it stands at, and for which addition there is room.
 ///
 /// What it says is a function of the changes that were added, and of the table with which it began ([`CertBook::new`]). A change is first judged,
 /// then room is made for it (`reserve`), and then it is added, which takes no memory and cannot fail. The accounts lie in blocks of 64. Frozen
@@ -46,12 +46,13 @@ pub struct CertBook {
 
 impl Model for CertBook {
     ghost use Rattle.std.specs.Prelude.{IfSome};
-    ghost use Rattle.cert_book.specs.Books.{BookWithRoom};
-    ghost use Rattle.cert_book.specs.inner.Keeping.{book_of_parts, AreKept, HasRoom};
+    ghost use Rattle.frozen.specs.Revision.{revision_of};
+    ghost use Rattle.cert_book.specs.Books.{Held};
+    ghost use Rattle.cert_book.specs.inner.Keeping.{AreKept, HasRoom};
 
-    ghost Value = { BookWithRoom };
+    ghost Value = { Held };
 
-    ghost view = { λ b. record { book = book_of_parts b.revision b.caps b.blocks.parts; room = b.room } };
+    ghost view = { λ b. record { revision = revision_of b.revision b.caps b.blocks.parts; room = b.room } };
 
     ghost invariant = { λ b. record {
       kept : AreKept b.blocks.parts b.numbers b.takings b.seed_count;
@@ -62,7 +63,8 @@ impl Model for CertBook {
 impl CertBook {
     /// The book of a site that begins with that table, without accounts. It takes no memory.
     pub fn new(alloc: Global, caps: Caps) -> CertBook
-        ensures { result ≡ record { book = book_of caps []; room = None } }
+        ensures book { book result ≡ book_of caps [] }
+        ensures room { result.room ≡ None }
     {
         CertBook {
             caps,
@@ -77,14 +79,14 @@ impl CertBook {
 
     /// The capacity table in force.
     pub fn table(&self) -> &Caps
-        ensures { result.now ≡ self.now.book.table }
+        ensures { result.now ≡ (book self.now).table }
     {
         &self.caps
     }
 
     /// How many accounts there are, up to [`MOST_ACCOUNTS`].
     pub fn accounts(&self) -> u32
-        ensures value { result ≡ length self.now.book.names }
+        ensures value { result ≡ length (book self.now).names }
         ensures few { result ≤ MOST_ACCOUNTS }
     {
         self.blocks.accounts()
@@ -92,7 +94,7 @@ impl CertBook {
 
     /// How many certificates stand, up to [`MOST_CERTS`].
     pub fn certs(&self) -> u32
-        ensures value { result ≡ self.now.book.certs }
+        ensures value { result ≡ (book self.now).certs }
         ensures few { result ≤ MOST_CERTS }
     {
         self.blocks.certs()
@@ -100,15 +102,15 @@ impl CertBook {
 
     /// The number of the revision: how many changes were added.
     pub fn revision(&self) -> u32
-        ensures { result ≡ self.now.book.revision }
+        ensures { result ≡ (book self.now).revision }
     {
         self.revision
     }
 
     /// The account of that name; `None` where none has it. It looks the name up as [`NameNumbers`] does.
     pub fn find(&self, name: &Name) -> Option<AccountNo>
-        ensures number { result ≡ number_of self.now.book.names name.now }
-        ensures account { IfSome result (IsAccount self.now.book) }
+        ensures number { result ≡ number_of (book self.now).names name.now }
+        ensures account { IfSome result (IsAccount (book self.now)) }
     {
         match self.numbers.find(name) {
             Some(number) => Some(AccountNo(number)),
@@ -118,16 +120,16 @@ impl CertBook {
 
     /// The name of an account.
     pub fn name(&self, account: AccountNo) -> Name
-        requires { IsAccount self.now.book account }
-        ensures { slice_get self.now.book.names account ≡ Some result }
+        requires { IsAccount (book self.now) account }
+        ensures { slice_get (book self.now).names account ≡ Some result }
     {
         self.blocks.block(account).name(account.0 % 64)
     }
 
     /// Whether an account is a seed.
     pub fn is_seed(&self, account: AccountNo) -> bool
-        requires { IsAccount self.now.book account }
-        ensures { result ≡ self.now.book.is_seed account }
+        requires { IsAccount (book self.now) account }
+        ensures { result ≡ (book self.now).is_seed account }
     {
         self.blocks.block(account).is_seed(account.0 % 64)
     }
@@ -135,42 +137,42 @@ impl CertBook {
     /// The level at which one account stands certified by another; Observer where it isn't. It looks at no more than the logarithm of the
     /// certificates that `from` gives.
     pub fn standing(&self, from: AccountNo, to: AccountNo) -> Level
-        requires { IsAccount self.now.book from }
-        ensures { result ≡ self.now.book.standing from to }
+        requires { IsAccount (book self.now) from }
+        ensures { result ≡ (book self.now).standing from to }
     {
         self.blocks.block(from).standing(from.0 % 64, to)
     }
 
     /// How many accounts stand certified by this one.
     pub fn given_count(&self, account: AccountNo) -> u32
-        requires { IsAccount self.now.book account }
-        ensures { result ≡ length (given self.now.book account) }
+        requires { IsAccount (book self.now) account }
+        ensures { result ≡ length (given (book self.now) account) }
     {
         self.blocks.block(account).degree(account.0 % 64)
     }
 
     /// The i-th certificate that an account gives, counted from 0, in rising order of taker.
     pub fn given(&self, account: AccountNo, i: u32) -> Cert
-        requires account { IsAccount self.now.book account }
-        requires within { i < length (given self.now.book account) }
-        ensures { slice_get (given self.now.book account) i ≡ Some result }
+        requires account { IsAccount (book self.now) account }
+        requires within { i < length (given (book self.now) account) }
+        ensures { slice_get (given (book self.now) account) i ≡ Some result }
     {
         self.blocks.block(account).given(account.0 % 64, i)
     }
 
     /// How many accounts certify this one.
     pub fn taken_count(&self, account: AccountNo) -> u32
-        requires { IsAccount self.now.book account }
-        ensures { result ≡ length (taken self.now.book account) }
+        requires { IsAccount (book self.now) account }
+        ensures { result ≡ length (taken (book self.now) account) }
     {
         self.takings.of(account).len() as u32
     }
 
     /// The i-th certificate that an account has taken, counted from 0, in rising order of giver. Its level is looked up as by `standing`.
     pub fn taken(&self, account: AccountNo, i: u32) -> Cert
-        requires account { IsAccount self.now.book account }
-        requires within { i < length (taken self.now.book account) }
-        ensures { slice_get (taken self.now.book account) i ≡ Some result }
+        requires account { IsAccount (book self.now) account }
+        requires within { i < length (taken (book self.now) account) }
+        ensures { slice_get (taken (book self.now) account) i ≡ Some result }
     {
         let from = self.takings.of(account)[i as usize];
         Cert {
@@ -185,8 +187,8 @@ impl CertBook {
     /// # Errors
     /// [`CertFault::NoSuchAccount`] exactly where there is none.
     pub fn known(&self, word: &Text) -> Result<AccountNo, CertFault>
-        ensures known { result ≡ known self.now.book word.now }
-        ensures account { IfOk result (IsAccount self.now.book) }
+        ensures known { result ≡ known (book self.now) word.now }
+        ensures account { IfOk result (IsAccount (book self.now)) }
     {
         let Some(name) = Name::read(word.as_str().as_bytes()) else {
             return Err(CertFault::NoSuchAccount);
@@ -202,9 +204,9 @@ impl CertBook {
     /// # Errors
     /// The first that applies: [`CertFault::NameTaken`] with the account that has the name, [`CertFault::AccountsFull`].
     pub fn judge_name(&self, name: &Name) -> Result<(), CertFault>
-        ensures judged { result ≡ judged_name self.now.book name.now }
-        ensures follows { OnOk result (Follows self.now.book (Joined name.now)) }
-        ensures place { OnOk result (HasPlace self.now.book (Joined name.now)) }
+        ensures judged { result ≡ judged_name (book self.now) name.now }
+        ensures follows { OnOk result (Follows (book self.now) (Joined name.now)) }
+        ensures place { OnOk result (HasPlace (book self.now) (Joined name.now)) }
     {
         if let Some(account) = self.find(name) {
             return Err(CertFault::NameTaken(account));
@@ -217,9 +219,9 @@ impl CertBook {
     /// # Errors
     /// [`CertFault::Same`] exactly where it is one.
     pub fn judge_seeding(&self, subject: AccountNo) -> Result<(), CertFault>
-        requires { IsAccount self.now.book subject }
-        ensures judged { result ≡ judged_seeding self.now.book subject }
-        ensures follows { OnOk result (Follows self.now.book (Seeded subject)) }
+        requires { IsAccount (book self.now) subject }
+        ensures judged { result ≡ judged_seeding (book self.now) subject }
+        ensures follows { OnOk result (Follows (book self.now) (Seeded subject)) }
     {
         fault_if(self.is_seed(subject), CertFault::Same)
     }
@@ -229,9 +231,9 @@ impl CertBook {
     /// # Errors
     /// The first that applies: [`CertFault::NotSeed`] where it is none, [`CertFault::LastSeed`] where no other account is one.
     pub fn judge_unseeding(&self, subject: AccountNo) -> Result<(), CertFault>
-        requires { IsAccount self.now.book subject }
-        ensures judged { result ≡ judged_unseeding self.now.book subject }
-        ensures follows { OnOk result (Follows self.now.book (Unseeded subject)) }
+        requires { IsAccount (book self.now) subject }
+        ensures judged { result ≡ judged_unseeding (book self.now) subject }
+        ensures follows { OnOk result (Follows (book self.now) (Unseeded subject)) }
     {
         fault_unless(self.is_seed(subject), CertFault::NotSeed)?;
         fault_unless(self.seed_count > 1, CertFault::LastSeed)
@@ -244,11 +246,11 @@ impl CertBook {
     /// the level, [`CertFault::Same`] where it stands certified at just that level, [`CertFault::CertsFull`] where [`MOST_CERTS`] stand and the pair
     /// is new.
     pub fn judge_certifying(&self, cert: &Cert) -> Result<(), CertFault>
-        requires author { IsAccount self.now.book cert.now.from }
-        requires subject { IsAccount self.now.book cert.now.to }
-        ensures judged { result ≡ judged_certifying self.now.book cert.now }
-        ensures follows { OnOk result (Follows self.now.book (Certified cert.now)) }
-        ensures place { OnOk result (HasPlace self.now.book (Certified cert.now)) }
+        requires author { IsAccount (book self.now) cert.now.from }
+        requires subject { IsAccount (book self.now) cert.now.to }
+        ensures judged { result ≡ judged_certifying (book self.now) cert.now }
+        ensures follows { OnOk result (Follows (book self.now) (Certified cert.now)) }
+        ensures place { OnOk result (HasPlace (book self.now) (Certified cert.now)) }
     {
         fault_if(cert.from.0 == cert.to.0, CertFault::SelfCert)?;
         fault_unless(self.caps.has(cert.level), CertFault::NoSuchLevel(self.caps.levels()))?;
@@ -262,9 +264,9 @@ impl CertBook {
     /// # Errors
     /// The first that applies: [`CertFault::BadName`] where the word is no name, and then those of [`CertBook::judge_name`].
     pub fn judge_join(&self, name: &Text) -> Result<Name, CertFault>
-        ensures judged { result ≡ judged_join self.now.book name.now }
-        ensures follows { IfOk result (λ name. Follows self.now.book (Joined name)) }
-        ensures place { IfOk result (λ name. HasPlace self.now.book (Joined name)) }
+        ensures judged { result ≡ judged_join (book self.now) name.now }
+        ensures follows { IfOk result (λ name. Follows (book self.now) (Joined name)) }
+        ensures place { IfOk result (λ name. HasPlace (book self.now) (Joined name)) }
     {
         let Some(name) = Name::read(name.as_str().as_bytes()) else {
             return Err(CertFault::BadName);
@@ -278,8 +280,8 @@ impl CertBook {
     /// # Errors
     /// The first that applies: [`CertFault::NoSuchAccount`], and then [`CertFault::Same`] where it is one.
     pub fn judge_seed(&self, subject: &Text) -> Result<AccountNo, CertFault>
-        ensures judged { result ≡ judged_seed self.now.book subject.now }
-        ensures follows { IfOk result (λ a. Follows self.now.book (Seeded a)) }
+        ensures judged { result ≡ judged_seed (book self.now) subject.now }
+        ensures follows { IfOk result (λ a. Follows (book self.now) (Seeded a)) }
     {
         let account = self.known(subject)?;
         self.judge_seeding(account)?;
@@ -291,8 +293,8 @@ impl CertBook {
     /// # Errors
     /// The first that applies: [`CertFault::NoSuchAccount`], and then those of [`CertBook::judge_unseeding`].
     pub fn judge_unseed(&self, subject: &Text) -> Result<AccountNo, CertFault>
-        ensures judged { result ≡ judged_unseed self.now.book subject.now }
-        ensures follows { IfOk result (λ a. Follows self.now.book (Unseeded a)) }
+        ensures judged { result ≡ judged_unseed (book self.now) subject.now }
+        ensures follows { IfOk result (λ a. Follows (book self.now) (Unseeded a)) }
     {
         let account = self.known(subject)?;
         self.judge_unseeding(account)?;
@@ -309,10 +311,10 @@ impl CertBook {
         subject: &Text,
         level: Level,
     ) -> Result<AccountNo, CertFault>
-        requires { IsAccount self.now.book author }
-        ensures judged { result ≡ judged_cert self.now.book author subject.now level }
-        ensures follows { IfOk result (λ a. Follows self.now.book (Certified (record { from = author; to = a; level = level }))) }
-        ensures place { IfOk result (λ a. HasPlace self.now.book (Certified (record { from = author; to = a; level = level }))) }
+        requires { IsAccount (book self.now) author }
+        ensures judged { result ≡ judged_cert (book self.now) author subject.now level }
+        ensures follows { IfOk result (λ a. Follows (book self.now) (Certified (record { from = author; to = a; level = level }))) }
+        ensures place { IfOk result (λ a. HasPlace (book self.now) (Certified (record { from = author; to = a; level = level }))) }
     {
         let account = self.known(subject)?;
         self.judge_certifying(&Cert {
@@ -329,8 +331,8 @@ impl CertBook {
     /// The first that applies: [`CertFault::LevelsFall`] with the number of levels of the table in force where the new one has fewer,
     /// [`CertFault::Same`] where it is the one in force.
     pub fn judge_table(&self, caps: &Caps) -> Result<(), CertFault>
-        ensures judged { result ≡ judged_table self.now.book caps.now }
-        ensures follows { OnOk result (Follows self.now.book (Tabled caps.now)) }
+        ensures judged { result ≡ judged_table (book self.now) caps.now }
+        ensures follows { OnOk result (Follows (book self.now) (Tabled caps.now)) }
     {
         fault_if(
             caps.levels() < self.caps.levels(),
@@ -355,11 +357,11 @@ impl CertBook {
         subject: Option<AccountNo>,
         steps: &mut Steps<L>,
     ) -> Result<(), NoMemory>
-        requires author { IfSome author (IsAccount self.old.book) }
-        requires subject { IfSome subject (IsAccount self.old.book) }
+        requires author { IfSome author (IsAccount (book self.old)) }
+        requires subject { IfSome subject (IsAccount (book self.old)) }
         ensures room { OnOk result (self.new.room ≡ Some (record { author = author; subject = subject })) }
         ensures none { OnErr result (self.new.room ≡ None) }
-        ensures same { self.new.book ≡ self.old.book }
+        ensures same { self.new.revision ≡ self.old.revision }
     {
         self.room = None;
         reserve_beside(&author, &subject, &mut self.numbers, &mut self.takings)?;
@@ -372,12 +374,12 @@ impl CertBook {
     /// Adds an account, and answers its number, the next one. It takes no memory and cannot fail. One step.
     pub fn add_join<L: Ledger>(&mut self, name: Name, steps: &mut Steps<L>) -> AccountNo
         requires room { self.old.room ≡ Some (record { author = None; subject = None }) }
-        requires follows { Follows self.old.book (Joined name) }
-        requires place { HasPlace self.old.book (Joined name) }
-        requires short { self.old.book.revision < 4_294_967_295 }
-        ensures account { result ≡ length self.old.book.names }
-        ensures added { Adds self.old.book self.new.book (Joined name) }
-        ensures revision { self.new.book.revision ≡ self.old.book.revision + 1 }
+        requires follows { Follows (book self.old) (Joined name) }
+        requires place { HasPlace (book self.old) (Joined name) }
+        requires short { (book self.old).revision < 4_294_967_295 }
+        ensures account { result ≡ length (book self.old).names }
+        ensures added { Adds (book self.old) (book self.new) (Joined name) }
+        ensures revision { (book self.new).revision ≡ (book self.old).revision + 1 }
         ensures room { self.new.room ≡ None }
         ensures steps { steps.new ≡ steps.old + 1 }
     {
@@ -392,10 +394,10 @@ impl CertBook {
     /// Makes an account a seed. It takes no memory and cannot fail. No step.
     pub fn add_seed<L: Ledger>(&mut self, subject: AccountNo, steps: &mut Steps<L>)
         requires room { self.old.room ≡ Some (record { author = None; subject = Some subject }) }
-        requires follows { Follows self.old.book (Seeded subject) }
-        requires short { self.old.book.revision < 4_294_967_295 }
-        ensures added { Adds self.old.book self.new.book (Seeded subject) }
-        ensures revision { self.new.book.revision ≡ self.old.book.revision + 1 }
+        requires follows { Follows (book self.old) (Seeded subject) }
+        requires short { (book self.old).revision < 4_294_967_295 }
+        ensures added { Adds (book self.old) (book self.new) (Seeded subject) }
+        ensures revision { (book self.new).revision ≡ (book self.old).revision + 1 }
         ensures room { self.new.room ≡ None }
         ensures steps { steps.new ≡ steps.old }
     {
@@ -409,10 +411,10 @@ impl CertBook {
     /// Makes an account a seed no more. It takes no memory and cannot fail.
     pub fn add_unseed(&mut self, subject: AccountNo)
         requires room { self.old.room ≡ Some (record { author = None; subject = Some subject }) }
-        requires follows { Follows self.old.book (Unseeded subject) }
-        requires short { self.old.book.revision < 4_294_967_295 }
-        ensures added { Adds self.old.book self.new.book (Unseeded subject) }
-        ensures revision { self.new.book.revision ≡ self.old.book.revision + 1 }
+        requires follows { Follows (book self.old) (Unseeded subject) }
+        requires short { (book self.old).revision < 4_294_967_295 }
+        ensures added { Adds (book self.old) (book self.new) (Unseeded subject) }
+        ensures revision { (book self.new).revision ≡ (book self.old).revision + 1 }
         ensures room { self.new.room ≡ None }
     {
         self.blocks.mark(subject, false);
@@ -433,11 +435,11 @@ impl CertBook {
         steps: &mut Steps<L>,
     )
         requires room { self.old.room ≡ Some (record { author = Some author; subject = Some subject }) }
-        requires follows { Follows self.old.book (Certified (record { from = author; to = subject; level = level })) }
-        requires place { HasPlace self.old.book (Certified (record { from = author; to = subject; level = level })) }
-        requires short { self.old.book.revision < 4_294_967_295 }
-        ensures added { Adds self.old.book self.new.book (Certified (record { from = author; to = subject; level = level })) }
-        ensures revision { self.new.book.revision ≡ self.old.book.revision + 1 }
+        requires follows { Follows (book self.old) (Certified (record { from = author; to = subject; level = level })) }
+        requires place { HasPlace (book self.old) (Certified (record { from = author; to = subject; level = level })) }
+        requires short { (book self.old).revision < 4_294_967_295 }
+        ensures added { Adds (book self.old) (book self.new) (Certified (record { from = author; to = subject; level = level })) }
+        ensures revision { (book self.new).revision ≡ (book self.old).revision + 1 }
         ensures room { self.new.room ≡ None }
         ensures steps { steps.new ≡ steps.old + 1 }
     {
@@ -450,10 +452,10 @@ impl CertBook {
     /// Puts another table in force. It takes no memory and cannot fail.
     pub fn add_table(&mut self, caps: Caps)
         requires room { IsSome self.old.room }
-        requires follows { Follows self.old.book (Tabled caps) }
-        requires short { self.old.book.revision < 4_294_967_295 }
-        ensures added { Adds self.old.book self.new.book (Tabled caps) }
-        ensures revision { self.new.book.revision ≡ self.old.book.revision + 1 }
+        requires follows { Follows (book self.old) (Tabled caps) }
+        requires short { (book self.old).revision < 4_294_967_295 }
+        ensures added { Adds (book self.old) (book self.new) (Tabled caps) }
+        ensures revision { (book self.new).revision ≡ (book self.old).revision + 1 }
         ensures room { self.new.room ≡ None }
     {
         self.caps = caps;
@@ -468,10 +470,10 @@ impl CertBook {
     /// # Errors
     /// [`NoMemory`] where there isn't enough for it, and for no other cause. What the book says stays.
     pub fn freeze<L: Ledger>(&mut self, steps: &mut Steps<L>) -> Result<Arc<Frozen>, NoMemory>
-        ensures frozen { IfOk result (λ f. Freezes self.old.book f.value) }
-        ensures records { IfOk result (λ f. (opening : Table) (k : List Record) → self.old.book ≡ book_of opening (changes k) → FreezesRecords opening k f.value) }
+        ensures frozen { IfOk result (λ f. f.value ≡ self.old.revision) }
+        ensures records { IfOk result (λ f. (opening : Table) (k : List Record) → book self.old ≡ book_of opening (changes k) → Freezes opening k f.value) }
         ensures same { self.new ≡ record self.old { room = None } }
-        ensures steps { steps.new ≤ steps.old + (2 * parts_for (length self.old.book.names) + 1) }
+        ensures steps { steps.new ≤ steps.old + (2 * parts_for (length (book self.old).names) + 1) }
     {
         self.room = None;
         let alloc = self.blocks.allocator();

@@ -1,6 +1,6 @@
 //! Who certifies whom, by account that is certified.
 
-ghost use Rattle.std.specs.Prelude.{ℕ, ◌≡◌, ◌≢◌, ◌<◌, ◌++◌, ◌∷◌, [], OnOk, length, if◌then◌else◌, ◌==◌};
+ghost use Rattle.std.specs.Prelude.{ℕ, ◌≡◌, ◌≢◌, ◌<◌, ◌+◌, ◌++◌, ◌∷◌, [], OnOk, length, if◌then◌else◌, ◌==◌};
 ghost use Rattle.cert_book.specs.inner.Takings.{Givers, no_givers, givers_of, room_at, has, Rises};
 
 use std::alloc::{AllocError, Global};

@@ -3,34 +3,21 @@ use Rattle.std.specs.Prelude.{ℕ, Bool, true, false, ◌≡◌, ◌<◌, List, 
 use Rattle.trust_types.specs.Levels.{is_grade}
 use Rattle.trust_types.specs.Names.{IsName}
 use Rattle.trust_types.specs.Sum.{sum_below}
-use Rattle.trust_types.specs.Tables.{Table}
 use Rattle.name_index.specs.Numbers.{Numbers, AreNumbersOf}
 use Rattle.frozen.specs.Parts.{Part}
-use Rattle.frozen.specs.Sites.{names, accounts, is_seed, standing, certs}
+use Rattle.frozen.specs.Sites.{names, accounts, is_seed, standing}
 use Rattle.cert_book.specs.declared.rooms.Room.{Room}
-use Rattle.cert_book.specs.Books.{Book}
 use Rattle.cert_book.specs.inner.Blocks.{Blocks}
 use Rattle.cert_book.specs.inner.Takings.{Takings, givers_of, room_at, has}
-
--- The book of a site's parts.
-abbrev pub book_of_parts : ℕ → Table → List Part → Book
-book_of_parts revision table ps = record {
-  revision = revision;
-  table = table;
-  names = names ps;
-  is_seed = is_seed ps;
-  standing = standing ps;
-  certs = certs ps;
-}
 
 -- How many of the accounts before a number are seeds.
 abbrev pub seeds_before : (ℕ → Bool) → ℕ → ℕ
 seeds_before seed n = sum_below n (λ a. if seed a then 1 else 0)
 
 -- What is kept beside the parts tells of them: the numbers of the names, who certifies each account, and how many seeds there are.
-pub record AreKept (ps : List Part) (numbers : Numbers) (takings : Takings) (seed_count : ℕ) : Type 0 where
+pub record AreKept (ps : List Part) (index : Numbers) (takings : Takings) (seed_count : ℕ) : Type 0 where
   pub named : All IsName (names ps)
-  pub numbers : AreNumbersOf (names ps) numbers.entries
+  pub numbers : AreNumbersOf (names ps) index.entries
   pub lists : length takings.lists ≡ accounts ps
   pub givers : (a b : ℕ) → has (givers_of takings b) a ≡ is_grade (standing ps a b)
   pub seeds : seed_count ≡ seeds_before (is_seed ps) (accounts ps)
