@@ -1,0 +1,9 @@
+pub mod Acts
+pub mod Histories
+pub mod Live
+pub mod Texts
+pub mod Held
+pub mod Replies
+pub mod Legal
+pub mod Views
+pub mod inner

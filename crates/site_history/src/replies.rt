@@ -1,0 +1,73 @@
+use posting_policy::PostKind;
+use trust_types::{AccountNo, Level};
+
+/// What a site answers to an act. All but the first five and `Fault` refuse it, and then nothing is changed.
+#[derive(Clone, Copy, Debug, PartialEq, Eq)]
+pub enum Reply {
+    /// An account has joined, under this number.
+    Joined(AccountNo),
+    /// The graph or the table has changed; this is the revision's number now.
+    Revised(u32),
+    /// A post was added, under this number: of diary entries by author, of replies by article, of articles and projects over the site.
+    Posted(PostKind, u32),
+    /// The account of this number is logged in.
+    LoggedIn(AccountNo),
+    /// The author's session has ended.
+    LoggedOut,
+    /// The author isn't logged in under its token.
+    NoSession,
+    /// The author has no account.
+    NoSuchAuthor,
+    /// The word is no name.
+    BadName,
+    /// The account or project of this number has the name.
+    NameTaken(u32),
+    /// There are as many accounts as a site may have.
+    AccountsFull,
+    /// There is no account of that name.
+    NoSuchAccount,
+    /// No account certifies itself.
+    SelfCert,
+    /// The table in force hasn't the level; it has this many levels.
+    NoSuchLevel(u32),
+    /// It is so already.
+    Same,
+    /// There are as many standing certificates as a site may have.
+    CertsFull,
+    /// The account is no seed.
+    NotSeed,
+    /// The account is the only seed.
+    LastSeed,
+    /// The new table has fewer levels than the one in force, which has this many.
+    LevelsFall(u32),
+    /// There is no article of that number.
+    NoSuchArticle,
+    /// The text or title has this many bytes, which is too many.
+    LongText(u64),
+    /// The account has no password, or another one.
+    WrongPassword,
+    /// A live session has the token.
+    TokenTaken,
+    /// There are as many live sessions as a site may have.
+    SessionsFull,
+    /// The author holds the first level, and the post needs the second, which is above it.
+    Denied(Level, Level),
+    /// The author is no seed, and seeds alone change seeds and the table.
+    NotSteward,
+    /// The keeper failed. The command was accepted, but what it would have added wasn't kept, so it isn't there.
+    Fault,
+}
+
+/// Why an act got no reply. The site is as it was, and the history has no entry of it.
+#[derive(Clone, Copy, Debug, PartialEq, Eq)]
+pub enum Refusal {
+    /// The history has as many places as it may have.
+    HistoryFull,
+    /// The texts of the act are more than fit; the history's have this many bytes.
+    TextFull(u64),
+    /// Memory ran out.
+    NoMemory,
+}
+
+/// A reply, or a refusal.
+pub type Answer = Result<Reply, Refusal>;
