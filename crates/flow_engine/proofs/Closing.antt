@@ -1,5 +1,5 @@
 -- Where no unit can be moved to the supersink.
-use Rattle.std.proofs.Common.{ℕ, Bool, true, false, ltb, ◌≡◌, ◌≢◌, ◌≤◌, ◌<◌, inl, inr, refl, arith, ap, sym, subst, ◌∙◌}
+use Rattle.std.proofs.Common.{ℕ, Bool, true, false, ltb, ◌≡◌, ◌≢◌, ◌<◌, inl, inr, refl, arith, ap, sym, subst, ◌∙◌}
 use Rattle.std.specs.Option.{IfNone}
 use Rattle.std.specs.Bool.{then_some}
 use Rattle.std.proofs.lemmas.Bool.{cases_lt}
@@ -7,7 +7,7 @@ use Rattle.trust_types.specs.declared.accounts.Node.TheVariants.{Root, Account}
 use Rattle.frozen.specs.Revision.{certificates}
 use Rattle.split_flow.specs.Split.{SplitNode, InHalf, OutHalf, Supersink, IsArc}
 use Rattle.split_graph.specs.Numbers.{node_number}
-use Rattle.split_graph.specs.Arcs.{Arcs, AreArcs, LeadsTo, twin_of, rest_of, between}
+use Rattle.split_graph.specs.Arcs.{Arcs, AreArcs, LeadsTo, twin_of, rest_of}
 use Rattle.split_graph.specs.Network.{Network, StandsFor}
 use Rattle.split_graph.proofs.Numbers.{node_numbered}
 use Rattle.split_graph.proofs.Units.{between-arc}

@@ -1,14 +1,12 @@
 -- How many steps the phases take.
-use Rattle.std.proofs.Common.{ℕ, zero, suc, Bool, true, false, ◌+◌, ◌*◌, ◌-◌, ◌≡◌, ◌≤◌, ◌<◌, refl, arith, ap, sym, subst, ◌∙◌, if◌then◌else◌}
-use Rattle.trust_types.specs.declared.accounts.Node.TheVariants.{Root}
+use Rattle.std.proofs.Common.{ℕ, zero, suc, Bool, true, false, ◌+◌, ◌*◌, ◌≡◌, ◌≤◌, refl, arith, ap, subst, ◌∙◌, if◌then◌else◌}
 use Rattle.trust_types.specs.Sum.{sum_below}
 use Rattle.frozen.specs.Sites.{Parts, accounts, degree, certs, certificates_of}
-use Rattle.frozen.specs.Revision.{Revision, certificates}
-use Rattle.split_flow.specs.Split.{SplitNode, Supersink, source, Rests}
-use Rattle.split_flow.specs.Moved.{out_of}
+use Rattle.frozen.specs.Revision.{Revision}
+use Rattle.split_flow.specs.Split.{Supersink, Rests}
 use Rattle.split_graph.specs.Numbers.{node_number, node_count}
 use Rattle.split_graph.specs.Arcs.{Arcs, arc_count, between}
-use Rattle.split_graph.specs.Network.{Room, Network, Fits, StandsFor, IsSameNetwork, AreInPlace, seeds_before, given_count, residual_count}
+use Rattle.split_graph.specs.Network.{Room, Network, Fits, StandsFor, IsSameNetwork, AreInPlace, seeds_before}
 use Rattle.split_graph.proofs.Units.{same_count}
 use Rattle.layers.specs.Layers.{WalkTo, IsPhase}
 use Rattle.layers.proofs.FewPhases.{each-sends}

@@ -1,5 +1,5 @@
 -- How a search by layers grows.
-use Rattle.std.proofs.Common.{ℕ, zero, suc, List, Bool, true, false, not, ◌+◌, ◌-◌, ◌==◌, ◌≡◌, ◌≢◌, ◌≤◌, ◌<◌, inl, inr, refl, arith, ap, sym, subst, ◌∙◌, [], ◌∷◌, ◌++◌, length, length-append, get_or, set, get_or-set_same, get_or-set_other, length-set, cond, ltb}
+use Rattle.std.proofs.Common.{ℕ, zero, suc, List, Bool, true, false, not, ◌+◌, ◌==◌, ◌≡◌, ◌≢◌, ◌≤◌, ◌<◌, inl, inr, refl, arith, ap, sym, subst, ◌∙◌, [], ◌∷◌, ◌++◌, length, length-append, get_or, set, get_or-set_same, get_or-set_other, length-set, cond, ltb}
 use Rattle.std.proofs.lemmas.Bool.{cases_eq, cases_lt}
 use Rattle.std.proofs.lemmas.Bool.Decides.{nat_tests}
 use Rattle.std.proofs.lemmas.List.{get_or_append_left, get_or_at}
@@ -190,11 +190,11 @@ grown n u e along begun =
       fresh = λ v was is.
           elim (cases_eq v n.node) [
             | inl same ↦ (
-                ap (layer_of t) same ∙ layer_now n,
-                ap (cursor_of t) same ∙ cursor_now n ∙ begun ∙ ap (first_of n.a) (sym same),
-                e,
-                subst (λ (w : ℕ). IsOpen n.a u w e) (sym same) along,
-              )
+              ap (layer_of t) same ∙ layer_now n,
+              ap (cursor_of t) same ∙ cursor_now n ∙ begun ∙ ap (first_of n.a) (sym same),
+              e,
+              subst (λ (w : ℕ). IsOpen n.a u w e) (sym same) along,
+            )
             | inr other ↦ absurd (omega (arith, layer_stays n v other))
           ];
       long = length-set s.layer n.node n.layer;

@@ -1,15 +1,15 @@
 -- The last node of a way: its arcs are looked at, and used up one after another.
-use Rattle.std.proofs.Common.{ℕ, zero, suc, List, Bool, true, false, ◌+◌, ◌*◌, ◌-◌, ◌==◌, ◌≡◌, ◌≢◌, ◌≤◌, ◌<◌, inl, inr, refl, arith, ap, sym, subst, ◌∙◌, [], ◌∷◌, ◌++◌, length, get_or, get_or-set_same, length-set, cond, ltb, take}
-use Rattle.std.proofs.lemmas.Bool.{cases_eq, cases_lt}
+use Rattle.std.proofs.Common.{ℕ, List, ◌+◌, ◌*◌, ◌-◌, ◌==◌, ◌≡◌, ◌≢◌, ◌≤◌, ◌<◌, inl, inr, refl, arith, ap, sym, subst, ◌∙◌, [], ◌∷◌, ◌++◌, length, get_or, get_or-set_same, length-set, cond, take}
+use Rattle.std.proofs.lemmas.Bool.{cases_lt}
 use Rattle.std.proofs.lemmas.Bool.Decides.{nat_tests}
 use Rattle.std.proofs.lemmas.List.{get_or-take, length-take-le}
 use Rattle.split_graph.specs.Numbers.{node_count}
 use Rattle.split_graph.specs.Arcs.{Arcs, AreArcs, arc_count, head_of, tail_of, rest_of, first_of}
 use Rattle.flow_engine.specs.Solved.{unreached}
-use Rattle.flow_engine.specs.inner.Reached.{Reached, AreReached, IsGrown, IsLookedAt, EndsAfter, reached_count, layer_of, cursor_of, layers_by}
+use Rattle.flow_engine.specs.inner.Reached.{Reached, AreReached, IsGrown, IsLookedAt, EndsAfter, layer_of, cursor_of, layers_by}
 use Rattle.flow_engine.specs.inner.Ways.{pass, IsSpent, IsUsed, AreServing, IsOnWay, IsWay, IsServedOn, used}
 use Rattle.flow_engine.proofs.Growing.{below_at, least_at}
-use Rattle.flow_engine.proofs.Using.{Passed, after_pass, serving-grown, way-grown, layers-grown, layers-at, serving-passed, way-passed, used-passed, used-grown, used-elsewhere, used-deepest, spent-row, way-longer}
+use Rattle.flow_engine.proofs.Using.{Passed, serving-grown, way-grown, layers-grown, layers-at, serving-passed, way-passed, used-passed, used-grown, used-elsewhere, used-deepest, spent-row, way-longer}
 use Rattle.flow_engine.proofs.Pushing.{deep-low}
 
 pub served-same : (a : Arcs) (deep : ℕ) (s : Reached) (way : List ℕ) → AreServing a deep s → IsOnWay a deep s way → IsServedOn a deep s s way

@@ -1,14 +1,14 @@
 -- What a search by layers has found when it ends.
-use Rattle.std.proofs.Common.{ℕ, zero, suc, Bool, true, false, ◌+◌, ◌-◌, ◌==◌, ◌≡◌, ◌≢◌, ◌≤◌, ◌<◌, inl, inr, refl, arith, ap, sym, subst, ◌∙◌, min, length}
+use Rattle.std.proofs.Common.{ℕ, zero, suc, ◌+◌, ◌-◌, ◌≡◌, ◌≢◌, ◌≤◌, ◌<◌, inl, inr, refl, arith, ap, sym, subst, ◌∙◌, min}
 use Rattle.std.proofs.lemmas.Bool.{cases_eq, cases_lt}
 use Rattle.std.proofs.lemmas.Bool.Decides.{nat_tests}
 use Rattle.trust_types.specs.Sum.{sum_below}
 use Rattle.trust_types.proofs.Sums.{sum_below-eq}
-use Rattle.split_flow.specs.Split.{SplitNode, Rests}
+use Rattle.split_flow.specs.Split.{SplitNode}
 use Rattle.split_flow.specs.Moved.{IsSaturated}
 use Rattle.split_flow.proofs.Sums.{sum_below-next}
 use Rattle.split_graph.specs.Numbers.{node_number, node_count}
-use Rattle.split_graph.specs.Arcs.{Arcs, AreArcs, LeadsTo, arc_count, head_of, tail_of, rest_of, first_of, between}
+use Rattle.split_graph.specs.Arcs.{Arcs, AreArcs, arc_count, head_of, tail_of, first_of, between}
 use Rattle.split_graph.specs.Network.{Network, StandsFor}
 use Rattle.split_graph.proofs.Numbers.{node_number-injective, node_numbered}
 use Rattle.split_graph.proofs.Units.{between-arc, arc-between}

@@ -4,15 +4,15 @@ use Rattle.std.proofs.lemmas.Bool.{cases_eq}
 use Rattle.split_flow.specs.Split.{SplitNode, Supersink, source, Rests}
 use Rattle.split_flow.specs.Moved.{PassesServed, IsOneMoved, IsMidway}
 use Rattle.split_flow.proofs.Ways.{way_begins, way_goes_on, still_served}
-use Rattle.split_graph.specs.Numbers.{node_number, node_count}
+use Rattle.split_graph.specs.Numbers.{node_number}
 use Rattle.split_graph.specs.Arcs.{Arcs, AreArcs, IsSameGraph, LeadsTo, arc_count, first_of, twin_of, head_of, tail_of, rest_of, between, move_one}
 use Rattle.split_graph.specs.Network.{Network, IsSameNetwork}
 use Rattle.split_graph.proofs.Numbers.{node_number-injective, node_numbered, is_split_node}
 use Rattle.split_graph.proofs.Units.{rest_down, rest_other, rest_kept, moves_one, same_count, same_head, same_tail}
 use Rattle.split_graph.proofs.Standing.{same_network, same_network-moved}
 use Rattle.flow_engine.specs.Solved.{unreached}
-use Rattle.flow_engine.specs.inner.Reached.{Reached, AreReached, AreLayered, IsOpen, IsClosed, EndsAfter, first_node, last_node, layer_of, cursor_of, layers_by, node_at}
-use Rattle.flow_engine.specs.inner.Ways.{IsSpent, AreServing, IsOnWay, IsWay}
+use Rattle.flow_engine.specs.inner.Reached.{Reached, AreLayered, IsOpen, IsClosed, EndsAfter, first_node, last_node, layer_of, cursor_of, layers_by, node_at}
+use Rattle.flow_engine.specs.inner.Ways.{IsSpent, AreServing, IsWay}
 use Rattle.flow_engine.proofs.Growing.{closed_at, below_at, inner_at}
 use Rattle.flow_engine.proofs.Nearest.{layers-last, layers-least, layers-most}
 use Rattle.flow_engine.proofs.Using.{layers-at, none_moved}

@@ -1,5 +1,5 @@
 -- What `solve` leaves: a solution that can be read, and how many steps it took.
-use Rattle.std.proofs.Common.{ℕ, Bool, ◌+◌, ◌*◌, ◌-◌, ◌==◌, ◌≡◌, ◌≢◌, ◌≤◌, ◌<◌, ◌∙◌, arith, ap, sym, subst}
+use Rattle.std.proofs.Common.{ℕ, Bool, ◌+◌, ◌*◌, ◌-◌, ◌==◌, ◌≡◌, ◌≤◌, ◌∙◌, arith, ap, sym, subst}
 use Rattle.trust_types.specs.declared.levels.Level.{Level}
 use Rattle.trust_types.specs.declared.accounts.Node.TheVariants.{Root, Account}
 use Rattle.trust_types.specs.Tables.{IsTable}
@@ -7,7 +7,7 @@ use Rattle.trust_types.specs.Flow.{Flow, is_served, total, units_out}
 use Rattle.trust_types.proofs.Conservation.{total_is_root_units}
 use Rattle.frozen.specs.Revision.{Revision, certificates}
 use Rattle.split_flow.specs.Split.{SplitNode, InHalf, OutHalf, Supersink, source, Rests}
-use Rattle.split_flow.specs.Moved.{IsMoved, PassesServed, IsSaturated, out_of, units_moved, sides_of_reached}
+use Rattle.split_flow.specs.Moved.{PassesServed, IsSaturated, out_of, units_moved, sides_of_reached}
 use Rattle.split_flow.specs.Solved.{IsSolved}
 use Rattle.split_flow.specs.Laws.{NoneToItself}
 use Rattle.split_flow.proofs.Sums.{sum_below-none}

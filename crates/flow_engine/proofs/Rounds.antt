@@ -1,14 +1,14 @@
 -- Units are sent along shortest ways until none is left.
-use Rattle.std.proofs.Common.{ℕ, ◌+◌, ◌*◌, ◌-◌, ◌≡◌, ◌≢◌, ◌≤◌, ◌<◌, inl, inr, arith, ap, sym, subst, ◌∙◌}
+use Rattle.std.proofs.Common.{ℕ, ◌+◌, ◌*◌, ◌≡◌, ◌≤◌, inl, inr, arith, ap, sym, subst, ◌∙◌}
 use Rattle.std.proofs.lemmas.Bool.{cases_eq}
 use Rattle.split_flow.specs.Split.{SplitNode, Supersink, source, Rests}
 use Rattle.split_flow.specs.Moved.{IsMoved, out_of}
 use Rattle.split_graph.specs.Numbers.{node_number}
 use Rattle.split_graph.specs.Arcs.{Arcs, AreArcs, between}
 use Rattle.split_graph.specs.Network.{Network, IsSameNetwork}
-use Rattle.layers.specs.Layers.{WalkTo, AreLayers, AreByDistance, AreSpent, IsPhase}
+use Rattle.layers.specs.Layers.{WalkTo, AreLayers, AreSpent, IsPhase}
 use Rattle.layers.proofs.Rising.{ways_are_longer}
-use Rattle.flow_engine.specs.inner.Reached.{Reached, AreLayered, AreNearest, first_node, layers_by}
+use Rattle.flow_engine.specs.inner.Reached.{Reached, AreNearest, first_node, layers_by}
 use Rattle.flow_engine.specs.inner.Ways.{IsSpent, AreServing}
 use Rattle.flow_engine.specs.inner.Passed.{sent_by}
 use Rattle.flow_engine.proofs.Nearest.{layers_between, distance_between}

@@ -1,5 +1,5 @@
 -- What stays true while units are sent along shortest ways.
-use Rattle.std.proofs.Common.{ℕ, zero, suc, List, Bool, true, false, ◌+◌, ◌*◌, ◌-◌, ◌==◌, ◌≡◌, ◌≢◌, ◌≤◌, ◌<◌, inl, inr, refl, arith, ap, sym, subst, ◌∙◌, [], ◌∷◌, ◌++◌, length, length-append, get_or, set, get_or-set_same, get_or-set_other, length-set, cond, ltb, min}
+use Rattle.std.proofs.Common.{ℕ, List, Bool, true, false, ◌+◌, ◌-◌, ◌==◌, ◌≡◌, ◌≢◌, ◌≤◌, ◌<◌, inl, inr, refl, arith, ap, sym, subst, ◌∙◌, [], ◌∷◌, ◌++◌, length, length-append, get_or, get_or-set_same, get_or-set_other, length-set, cond, ltb}
 use Rattle.std.proofs.lemmas.Bool.{cases_eq, cases_lt}
 use Rattle.std.proofs.lemmas.Bool.Decides.{nat_tests}
 use Rattle.std.proofs.lemmas.List.{get_or_append_left, get_or_at}
@@ -12,7 +12,7 @@ use Rattle.split_graph.specs.Arcs.{Arcs, AreArcs, IsSameGraph, arc_count, head_o
 use Rattle.split_graph.proofs.Numbers.{node_number-injective}
 use Rattle.layers.specs.Layers.{AreSpent}
 use Rattle.flow_engine.specs.Solved.{unreached}
-use Rattle.flow_engine.specs.inner.Reached.{Reached, AreReached, IsGrown, IsLookedAt, IsClosed, IsOpen, first_node, last_node, reached_count, node_at, layer_of, cursor_of, layers_by, row_length}
+use Rattle.flow_engine.specs.inner.Reached.{Reached, AreReached, IsGrown, IsLookedAt, IsClosed, first_node, last_node, node_at, layer_of, cursor_of, layers_by, row_length}
 use Rattle.flow_engine.specs.inner.Ways.{pass, IsSpent, IsUsed, AreServing, IsOnWay, used_of, used}
 use Rattle.flow_engine.proofs.Growing.{ltb_yes, ltb_no, placewise, closed_at, below_at, inner_at, least_at}
 use Rattle.flow_engine.proofs.Nearest.{layers-last, layers-other, layers-least, layers-most, row_of, open_between, lengths}

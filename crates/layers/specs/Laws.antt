@@ -9,7 +9,7 @@ use Rattle.split_flow.specs.Split.{SplitNode, Supersink, source, Rests, IsSplitG
 use Rattle.split_flow.specs.Moved.{IsMoved, leaving, out_of}
 use Rattle.split_flow.specs.Laws.{NoneToItself}
 use Rattle.layers.specs.Layers.{WalkTo, IsDistanceTo, AreLayers, AreByDistance, AreSpent, ArePhases, up_to}
-use Rattle.layers.specs.PhaseBound.{capacity_sum, most_phases, most_steps}
+use Rattle.layers.specs.PhaseBound.{capacity_sum, phase_bound, most_phases, most_steps}
 
 -- Once no shortest way is left, every way to the supersink has more arcs than its layer's number
 abbrev pub WaysAreLonger : Type 0
@@ -54,3 +54,8 @@ StepsAreFew = (g : Certificates) (level : Level) (table : Table) (cap : Node →
     ArePhases g.accounts c phases r → out_of g.accounts r source + sent ≡ out_of g.accounts c source →
     steps ≤ 3 * arcs * (phases + 2) + sent * (2 * g.accounts + 4) →
     steps ≤ most_steps g.accounts arcs (capacity_sum g.accounts cap) sent
+
+-- At a site whose one seed certifies 1,999 others, with the table 2000 2000 1, the capacities add up to 9,998, and phases are at most 200:
+-- of 12,002 arcs and 1,999 units
+abbrev pub WideStarIsBounded : Type 0
+WideStarIsBounded = (phase_bound 9998 ≡ 200) × (most_steps 2000 12002 9998 1999 ≡ 15241202)

@@ -1,6 +1,6 @@
 //! The laws of phases, each the contract of a function that does nothing.
 
-ghost use Rattle.layers.specs.Laws.{DistanceRises, FewAreMissing, LayerCut, PhasesAreFew, StepsAreFew, WaysAreLonger};
+ghost use Rattle.layers.specs.Laws.{DistanceRises, FewAreMissing, LayerCut, PhasesAreFew, StepsAreFew, WaysAreLonger, WideStarIsBounded};
 
 /// Once no shortest way is left, every way to the supersink is longer.
 pub fn ways_are_longer()
@@ -30,4 +30,9 @@ pub fn phases_are_few()
 /// And with phases their steps.
 pub fn steps_are_few()
     ensures { StepsAreFew }
+{}
+
+/// What that is where one seed certifies all others.
+pub fn wide_star_is_bounded()
+    ensures { WideStarIsBounded }
 {}

@@ -5,4 +5,5 @@ mod laws;
 
 pub use laws::{
     distance_rises, few_are_missing, layer_cut, phases_are_few, steps_are_few, ways_are_longer,
+    wide_star_is_bounded,
 };

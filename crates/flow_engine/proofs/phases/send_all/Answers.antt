@@ -1,4 +1,4 @@
-use Rattle.std.proofs.Common.{ℕ, ◌≡◌, ◌<◌, ◌∙◌, refl, arith, subst}
+use Rattle.std.proofs.Common.{ℕ, ◌<◌, ◌∙◌, refl, arith, subst}
 use Rattle.split_flow.specs.Split.{source}
 use Rattle.split_flow.specs.Moved.{out_of}
 use Rattle.split_graph.specs.Arcs.{between}

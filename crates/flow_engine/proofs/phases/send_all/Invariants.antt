@@ -1,4 +1,4 @@
-use Rattle.std.proofs.Common.{ℕ, ◌≤◌, ◌≡◌, length, vec_capacity}
+use Rattle.std.proofs.Common.{◌≤◌, ◌≡◌, length, vec_capacity}
 use Rattle.split_flow.specs.Split.{source}
 use Rattle.split_flow.specs.Moved.{PassesServed, out_of}
 use Rattle.split_graph.specs.Numbers.{node_count}

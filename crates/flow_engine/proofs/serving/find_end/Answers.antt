@@ -1,5 +1,5 @@
-use Rattle.std.proofs.Common.{ℕ, ◌+◌, ◌<◌, ◌≡◌, ◌∙◌, arith, ap, sym, subst}
-use Rattle.split_graph.specs.Arcs.{Arcs, tail_of, first_of}
+use Rattle.std.proofs.Common.{ℕ, ◌+◌, ◌<◌, ◌∙◌, arith, ap, sym, subst}
+use Rattle.split_graph.specs.Arcs.{tail_of, first_of}
 use Rattle.flow_engine.specs.Solved.{unreached}
 use Rattle.flow_engine.specs.inner.Reached.{Reached, IsLookedAt, EndsAfter, reached_count, layer_of, cursor_of}
 use Rattle.flow_engine.specs.inner.Ways.{IsServedOn, used}

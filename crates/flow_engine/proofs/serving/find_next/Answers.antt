@@ -1,8 +1,8 @@
-use Rattle.std.proofs.Common.{ℕ, ◌+◌, ◌<◌, ◌≡◌, ◌∙◌, arith, ap, sym, subst, length}
-use Rattle.split_graph.specs.Arcs.{Arcs, tail_of, first_of}
+use Rattle.std.proofs.Common.{ℕ, ◌+◌, ◌<◌, arith, ap, sym, subst, length}
+use Rattle.split_graph.specs.Arcs.{first_of}
 use Rattle.flow_engine.specs.inner.Reached.{Reached, reached_count, cursor_of}
 use Rattle.flow_engine.specs.inner.Ways.{IsServedOn, LeadsOn, LeadsElsewhere, used}
-use Rattle.flow_engine.proofs.Lasts.{Last, node, last-arc, served-passed, one-used, elsewhere-used, way-next}
+use Rattle.flow_engine.proofs.Lasts.{Last, node, served-passed, one-used, elsewhere-used, way-next}
 use Rattle.flow_engine.proofs.serving.find_next.Goals as goal
 
 pub returns-in-Some-clause-next : goal.returns-in-Some-clause-next

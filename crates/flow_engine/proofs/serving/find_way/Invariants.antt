@@ -1,5 +1,4 @@
-use Rattle.std.proofs.Common.{ℕ, ◌≡◌, ◌≤◌, ◌+◌, ◌-◌, ◌*◌, ◌==◌, if◌then◌else◌, vec_len, vec_capacity}
-use Rattle.split_graph.specs.Arcs.{arc_count}
+use Rattle.std.proofs.Common.{◌≡◌, ◌≤◌, ◌+◌, ◌-◌, vec_len, vec_capacity}
 use Rattle.flow_engine.specs.inner.Reached.{first_node, reached_count}
 use Rattle.flow_engine.specs.inner.Ways.{IsServedOn, IsSpent, used, left_over}
 use Rattle.flow_engine.proofs.serving.find_way.Given as goal

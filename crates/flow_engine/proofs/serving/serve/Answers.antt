@@ -1,4 +1,4 @@
-use Rattle.std.proofs.Common.{ℕ, ◌+◌, ◌*◌, ◌≡◌, ◌≤◌, ◌∙◌, arith, ap, sym, subst, length}
+use Rattle.std.proofs.Common.{ℕ, ◌+◌, ◌*◌, ◌≡◌, ◌≤◌, ◌∙◌, arith, ap, subst, length}
 use Rattle.split_flow.specs.Split.{source}
 use Rattle.split_flow.specs.Moved.{IsMidway, out_of}
 use Rattle.split_flow.proofs.Ways.{one_more_moved}

@@ -1,6 +1,5 @@
-use Rattle.std.proofs.Common.{ℕ, ◌≡◌, ◌≤◌, arith, vec_len}
+use Rattle.std.proofs.Common.{ℕ, arith, vec_len}
 use Rattle.split_graph.specs.Arcs.{Arcs, arc_count}
-use Rattle.flow_engine.specs.inner.Reached.{Reached}
 use Rattle.flow_engine.specs.inner.Ways.{used}
 use Rattle.flow_engine.proofs.Using.{used-few}
 use Rattle.flow_engine.proofs.Pushing.{deep-low}

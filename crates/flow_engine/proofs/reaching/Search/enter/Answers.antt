@@ -1,6 +1,6 @@
-use Rattle.std.proofs.Common.{refl, ℕ, ◌<◌, ◌≡◌, ◌∙◌, arith, ap, sym, subst}
-use Rattle.split_graph.specs.Arcs.{Arcs, tail_of, head_of}
-use Rattle.flow_engine.proofs.Growing.{New, entering, after, are_reached, grown, not_grown, next-low, room_for, reached_now, open_along}
+use Rattle.std.proofs.Common.{refl, ℕ, ◌<◌, ◌∙◌, arith, ap, sym, subst}
+use Rattle.split_graph.specs.Arcs.{Arcs, tail_of}
+use Rattle.flow_engine.proofs.Growing.{New, entering, are_reached, grown, not_grown, next-low, room_for, reached_now, open_along}
 use Rattle.flow_engine.specs.Solved.{unreached}
 use Rattle.flow_engine.specs.inner.Reached.{Reached, AreReached, IsGrown, reach, layer_of}
 use Rattle.flow_engine.proofs.reaching.Search.enter.Goals as goal

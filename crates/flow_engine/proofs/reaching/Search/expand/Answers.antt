@@ -1,7 +1,6 @@
-use Rattle.std.proofs.Common.{ℕ, ◌+◌, ◌<◌, ◌≡◌, ◌∙◌, arith, ap, sym, subst}
+use Rattle.std.proofs.Common.{ℕ, ◌+◌, ◌≡◌, ◌∙◌, arith, ap, subst}
 use Rattle.split_graph.specs.Arcs.{Arcs, tail_of}
 use Rattle.flow_engine.proofs.Growing.{not_grown, next-low, step_on, looked_more}
-use Rattle.flow_engine.specs.Solved.{unreached}
 use Rattle.flow_engine.specs.inner.Reached.{Reached, IsGrown, node_at, layer_of}
 use Rattle.flow_engine.proofs.reaching.Search.expand.Goals as goal
 

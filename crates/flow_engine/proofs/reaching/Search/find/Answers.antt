@@ -1,6 +1,6 @@
-use Rattle.std.proofs.Common.{ℕ, ◌+◌, ◌<◌, ◌≡◌, ◌∙◌, arith, ap, sym, subst}
+use Rattle.std.proofs.Common.{ℕ, ◌+◌, ◌<◌, ◌∙◌, arith, ap, sym, subst}
 use Rattle.split_graph.specs.Arcs.{Arcs}
-use Rattle.flow_engine.proofs.Growing.{next-low, count-few}
+use Rattle.flow_engine.proofs.Growing.{count-few}
 use Rattle.flow_engine.proofs.Nearest.{searching_begins, next_searching, by_distance, saturated, serving_begins, looked-few, looked-within, looked-next, deep-few, begun-after}
 use Rattle.flow_engine.specs.inner.Reached.{Reached, AreNearest, node_at, layer_of, layers_by, reached_count}
 use Rattle.flow_engine.specs.inner.Ways.{AreServing}

@@ -1,4 +1,4 @@
-use Rattle.std.proofs.Common.{ℕ, arith, sym, ◌∙◌}
+use Rattle.std.proofs.Common.{arith}
 use Rattle.split_graph.specs.Arcs.{Arcs, tail_of, rest_of}
 use Rattle.flow_engine.proofs.Growing.{not_grown, next-low, open_arc}
 use Rattle.flow_engine.proofs.reaching.Search.look.Goals as goal

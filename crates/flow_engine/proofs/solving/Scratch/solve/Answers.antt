@@ -1,14 +1,13 @@
-use Rattle.std.proofs.Common.{ℕ, ◌+◌, ◌≡◌, ◌≤◌, ◌∙◌, arith, ap, sym, subst, length, List, Bool}
+use Rattle.std.proofs.Common.{ℕ, ◌≡◌, ◌∙◌, arith, sym, subst, List, Bool}
 use Rattle.std.proofs.lemmas.List.{with_items_is}
 use Rattle.std.specs.Vec.{with_items}
-use Rattle.frozen.specs.Revision.{Revision, certificates}
 use Rattle.split_flow.specs.Split.{SplitNode}
 use Rattle.split_graph.specs.Numbers.{node_number}
-use Rattle.split_graph.specs.Arcs.{Arcs, arc_count}
+use Rattle.split_graph.specs.Arcs.{Arcs}
 use Rattle.split_graph.specs.Network.{Room, Network, Fits}
 use Rattle.split_graph.proofs.Units.{same_count}
 use Rattle.flow_engine.specs.declared.solving.Scratch.{Scratch}
-use Rattle.flow_engine.specs.inner.Held.{AreRead, IsReadable}
+use Rattle.flow_engine.specs.inner.Held.{AreRead}
 use Rattle.flow_engine.specs.inner.Reached.{is_reached}
 use Rattle.flow_engine.proofs.Counting.{arcs-fit, passed_read}
 use Rattle.flow_engine.proofs.Results.{Ended, nothing_passed, is_solved, is_readable, is_counted}

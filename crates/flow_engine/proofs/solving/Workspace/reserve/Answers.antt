@@ -1,4 +1,4 @@
-use Rattle.std.proofs.Common.{Bool, false, ltb, ◌≡◌, ◌∙◌, sym, subst, ap, ℕ}
+use Rattle.std.proofs.Common.{Bool, false, ◌≡◌, ◌∙◌, sym, subst, ap}
 use Rattle.std.specs.Prelude.{Some, None}
 use Rattle.split_flow.specs.Split.{SplitNode, InHalf, OutHalf}
 use Rattle.split_flow.specs.Moved.{side_of_halves}
