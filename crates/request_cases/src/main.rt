@@ -55,7 +55,9 @@ fn push_byte(bytes: &mut Vec<u8>, before: Before, byte: u8) -> Result<Before> {
         Before::Plain if byte == b'\\' => return Ok(Before::Backslash(0)),
         Before::Plain => bytes.push(byte)?,
         Before::Backslash(times) if byte.is_ascii_digit() => {
-            let more = times.saturating_mul(10).saturating_add((byte - b'0') as u32);
+            let more = times
+                .saturating_mul(10)
+                .saturating_add((byte - b'0') as u32);
             return Ok(Before::Backslash(more));
         }
         Before::Backslash(times) => {
