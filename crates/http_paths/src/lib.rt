@@ -7,6 +7,7 @@ ghost use Rattle.http_paths.specs.inner.Tables.{with_route, page_table, action_t
 
 use matchit::{InsertError, Router};
 use std::alloc::Global;
+use std::marker::Model;
 use trust_types::NoMemory;
 
 /// A page that a GET asks for.
@@ -101,14 +102,52 @@ fn add_first_actions(router: &mut Router<Action>) -> Result<(), InsertError>
     Ok(())
 }
 
-/// The page at a path.
-pub fn page_at(alloc: Global, path: &str) -> Result<Option<Page>, NoMemory>
-    ensures { IfOk result (λ page. page ≡ named_in pages path.now) }
-{
-    let Ok(router) = page_router(alloc) else {
-        return Err(NoMemory);
-    };
-    Ok(page_named(&router, path))
+/// The paths of a site. Once it is made any number of look-ups take no memory. Contracts see nothing of it: what a path names is fixed.
+#[derive(Drop)]
+pub struct Paths {
+    pages: Router<Page>,
+    actions: Router<Action>,
+}
+
+impl Model for Paths {
+    ghost use Rattle.std.specs.Prelude.{◌≡◌};
+    ghost use Rattle.http_paths.specs.inner.Tables.{page_table, action_table};
+
+    ghost Value = { Unit {0} };
+
+    ghost view = { λ paths. tt };
+
+    ghost invariant = { λ paths. (paths.pages ≡ page_table) × (paths.actions ≡ action_table) };
+}
+
+impl Paths {
+    /// Makes the routers.
+    ///
+    /// # Errors
+    /// [`NoMemory`] where there isn't enough for them.
+    pub fn new(alloc: Global) -> Result<Paths, NoMemory> {
+        let Ok(pages) = page_router(alloc) else {
+            return Err(NoMemory);
+        };
+        let Ok(actions) = action_router(alloc) else {
+            return Err(NoMemory);
+        };
+        Ok(Paths { pages, actions })
+    }
+
+    /// The page at a path; `None` where there is none.
+    pub fn page(&self, path: &str) -> Option<Page>
+        ensures { result ≡ named_in pages path.now }
+    {
+        page_named(&self.pages, path)
+    }
+
+    /// The action at a path; `None` where there is none.
+    pub fn action(&self, path: &str) -> Option<Action>
+        ensures { result ≡ named_in actions path.now }
+    {
+        action_named(&self.actions, path)
+    }
 }
 
 fn page_named(router: &Router<Page>, path: &str) -> Option<Page>
@@ -126,16 +165,6 @@ fn page_in(router: &Router<Page>, path: &str) -> Option<Page>
         Ok(found) => Some(*found.value),
         Err(_) => None,
     }
-}
-
-/// The action at a path.
-pub fn action_at(alloc: Global, path: &str) -> Result<Option<Action>, NoMemory>
-    ensures { IfOk result (λ action. action ≡ named_in actions path.now) }
-{
-    let Ok(router) = action_router(alloc) else {
-        return Err(NoMemory);
-    };
-    Ok(action_named(&router, path))
 }
 
 fn action_named(router: &Router<Action>, path: &str) -> Option<Action>

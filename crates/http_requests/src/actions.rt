@@ -6,16 +6,21 @@ ghost use Rattle.http_requests.specs.Actions.{action_route, done, table_of, numb
 
 use crate::forms::field;
 use crate::routes::Route;
-use http_paths::{Action, action_at};
+use http_paths::{Action, Paths};
 use std::alloc::Global;
 use text_lines::{Words, number};
 use trust_types::{Caps, Level, NoMemory};
 
 /// The route of a POST of that body to that path.
-pub(crate) fn action_route(alloc: Global, path: &str, body: &[u8]) -> Result<Route, NoMemory>
+pub(crate) fn action_route(
+    alloc: Global,
+    paths: &Paths,
+    path: &str,
+    body: &[u8],
+) -> Result<Route, NoMemory>
     ensures { IfOk result (λ route. route ≡ action_route path.now body.now) }
 {
-    match action_at(alloc, path)? {
+    match paths.action(path) {
         Some(action) => done(alloc, action, body),
         None => Ok(Route::NotFound),
     }

@@ -7,6 +7,7 @@ use crate::progress::Progress;
 use crate::requests::Request;
 use crate::routes::Route;
 use http_heads::Head;
+use http_paths::Paths;
 use std::alloc::Global;
 use trust_types::NoMemory;
 
@@ -24,7 +25,7 @@ pub enum Next {
 }
 
 /// What the front of the bytes asks for. Each call looks at all bytes of the head, also at those that a call before looked at; whoever reads on
-/// keeps a [`Progress`] and calls [`Progress::next`], whose answer is the same.
+/// keeps a [`Progress`] and calls [`Progress::next`], whose answer is the same and comes sooner.
 ///
 /// An answer other than [`Next::NeedMore`] is the answer whatever follows the bytes. It answers [`Next::NeedMore`] only where fewer than 81,920
 /// bytes are there, and [`Next::NoMemory`] only in place of [`Next::Whole`].
@@ -37,10 +38,15 @@ pub fn next_request(alloc: Global, bytes: &[u8]) -> Next
 }
 
 /// The request that a head and its body are.
-pub(crate) fn request_of(alloc: Global, head: &Head<'_>, body: &[u8]) -> Result<Request, NoMemory>
+pub(crate) fn request_of(
+    alloc: Global,
+    paths: &Paths,
+    head: &Head<'_>,
+    body: &[u8],
+) -> Result<Request, NoMemory>
     ensures { IfOk result (λ request. request ≡ request_of head.now body.now) }
 {
-    let route = route_of(alloc, head, body)?;
+    let route = route_of(alloc, paths, head, body)?;
     let session = head.session(alloc)?;
     Ok(Request {
         route,
@@ -50,13 +56,18 @@ pub(crate) fn request_of(alloc: Global, head: &Head<'_>, body: &[u8]) -> Result<
     })
 }
 
-fn route_of(alloc: Global, head: &Head<'_>, body: &[u8]) -> Result<Route, NoMemory>
+fn route_of(
+    alloc: Global,
+    paths: &Paths,
+    head: &Head<'_>,
+    body: &[u8],
+) -> Result<Route, NoMemory>
     ensures { IfOk result (λ route. route ≡ route_of head.now body.now) }
 {
     let path = path_of(head.target());
     match head.method() {
-        b"GET" | b"HEAD" => page_route(alloc, path),
-        b"POST" => action_route(alloc, path, body),
+        b"GET" | b"HEAD" => page_route(alloc, paths, path),
+        b"POST" => action_route(alloc, paths, path, body),
         _ => Ok(Route::NotImplemented),
     }
 }

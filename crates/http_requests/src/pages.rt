@@ -4,16 +4,16 @@ ghost use Rattle.std.specs.Prelude.{◌≡◌, IfOk};
 ghost use Rattle.http_requests.specs.Pages.{page_route, shown, part_after, article_of, grade_of};
 
 use crate::routes::Route;
-use http_paths::{Page, page_at};
+use http_paths::{Page, Paths};
 use std::alloc::Global;
 use text_lines::number;
 use trust_types::{Level, NoMemory, Text};
 
 /// The route of a GET to that path.
-pub(crate) fn page_route(alloc: Global, path: &str) -> Result<Route, NoMemory>
+pub(crate) fn page_route(alloc: Global, paths: &Paths, path: &str) -> Result<Route, NoMemory>
     ensures { IfOk result (λ route. route ≡ page_route path.now) }
 {
-    match page_at(alloc, path)? {
+    match paths.page(path) {
         Some(page) => shown(alloc, page, path),
         None => Ok(Route::NotFound),
     }

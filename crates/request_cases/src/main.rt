@@ -55,7 +55,9 @@ fn push_byte(bytes: &mut Vec<u8>, before: Before, byte: u8) -> Result<Before> {
         Before::Plain if byte == b'\\' => return Ok(Before::Backslash(0)),
         Before::Plain => bytes.push(byte)?,
         Before::Backslash(times) if byte.is_ascii_digit() => {
-            let more = times.saturating_mul(10).saturating_add((byte - b'0') as u32);
+            let more = times
+                .saturating_mul(10)
+                .saturating_add((byte - b'0') as u32);
             return Ok(Before::Backslash(more));
         }
         Before::Backslash(times) => {
@@ -156,8 +158,10 @@ fn show(alloc: Global, shown: Shown, line: &str, out: &mut impl Write) -> Result
 /// Writes how often the bytes are a request when they are read a thousand times.
 fn show_often(alloc: Global, bytes: &[u8], out: &mut impl Write) -> Result<()> {
     let mut requests: u64 = 0;
+    let mut progress = Progress::new();
     for _ in 0..TIMES {
-        let is_whole = matches!(next_request(alloc, bytes), Next::Whole(_, _));
+        let is_whole = matches!(progress.next(alloc, bytes), Next::Whole(_, _));
+        progress.restart();
         requests = requests.saturating_add(is_whole as u64);
     }
     out.write_all(format!(in alloc; "    {requests}\n")?.as_bytes())?;
