@@ -1,6 +1,6 @@
 //! The residual graph: what may still be moved through a split graph.
 
-ghost use Rattle.std.specs.Prelude.{ℕ, ◌≡◌, ◌<◌, ◌≤◌, ◌+◌, ◌^◌, nat_lt, length, slice_index, IfOk, Some, None};
+ghost use Rattle.std.specs.Prelude.{ℕ, ◌≡◌, ◌≢◌, ◌<◌, ◌≤◌, ◌+◌, ◌^◌, nat_lt, length, slice_index, IfOk, Some, None};
 ghost use Rattle.trust_types.specs.declared.levels.Level.{Level};
 ghost use Rattle.trust_types.specs.declared.accounts.Node.TheVariants.{Account};
 ghost use Rattle.trust_types.specs.Levels.{IsGrade};
@@ -10,12 +10,12 @@ ghost use Rattle.frozen.specs.Revision.{Revision, certificates};
 ghost use Rattle.split_flow.specs.Split.{SplitNode, InHalf, OutHalf, Supersink, IsNode, IsSplitGraph};
 ghost use Rattle.split_flow.specs.Moved.{IsOneMoved};
 ghost use Rattle.split_graph.specs.Numbers.{node_count};
-ghost use Rattle.split_graph.specs.Arcs.{IsSameGraph, arc_count, first_of, head_of, rest_of, between, move_one, LeadsTo};
+ghost use Rattle.split_graph.specs.Arcs.{IsSameGraph, arc_count, first_of, head_of, twin_of, rest_of, between, move_one, LeadsTo};
 ghost use Rattle.split_graph.specs.Network.{Fits, IsLaidFor, StandsFor, rows_of, given_count, IsTaker, arc_along, arc_to_supersink, units_on};
 
 use crate::arc_table::ArcTable;
 use crate::split_arcs::{SplitArc, list_arcs};
-use crate::split_nodes::{entered_account, in_half, is_along_edge, out_half};
+use crate::split_nodes::{in_half, is_along_edge, out_half};
 use frozen::Frozen;
 use std::alloc::Global;
 use std::marker::Model;
@@ -158,25 +158,40 @@ impl Residual {
         }
     }
 
-    /// The units on an arc along an edge, which may be moved back; 0 on any other.
-    fn units_on(&self, arc: u32) -> u32
+    /// The units on the arc that leads back, if that one is along an edge; else 0. They are what may be moved along this arc: mostly nothing, which
+    /// spares a look at the other's end.
+    fn units_back(&self, arc: u32) -> u32
         requires stands { StandsFor self.now }
         requires arc { arc < arc_count self.now.arcs }
-        ensures { (u v : SplitNode) → LeadsTo self.now.arcs u v arc → result ≡ units_on (between self.now.arcs) u v }
+        ensures { (u v : SplitNode) → LeadsTo self.now.arcs u v arc → result ≡ units_on (between self.now.arcs) v u }
     {
-        let head = self.table.head(arc);
-        let Some(_account) = entered_account(head) else {
-            return 0;
-        };
-        let twin = self.table.twin(arc);
-        let units = self.table.rest(twin);
+        let units = self.table.rest(arc);
         if units == 0 {
             return 0;
         }
-        if is_along_edge(self.table.head(twin), head) {
+        let head = self.table.head(arc);
+        if head % 2 == 1 {
+            return 0;
+        }
+        if is_along_edge(head, self.table.head(self.table.twin(arc))) {
             return units;
         }
         0
+    }
+
+    /// Writes the units on the arc that leads back into its place, which has 0.
+    fn write_back(&self, arc: u32, units: &mut [u32])
+        requires stands { StandsFor self.now }
+        requires arc { arc < arc_count self.now.arcs }
+        requires places { arc_count self.now.arcs ≤ length units.old }
+        requires none { slice_index units.old (twin_of self.now.arcs arc) ≡ 0 }
+        ensures here { (u v : SplitNode) → LeadsTo self.now.arcs u v arc → slice_index units.new (twin_of self.now.arcs arc) ≡ units_on (between self.now.arcs) v u }
+        ensures others { (d : ℕ) → d ≢ twin_of self.now.arcs arc → slice_index units.new d ≡ slice_index units.old d }
+    {
+        let back = self.units_back(arc);
+        if back != 0 {
+            units[self.table.twin(arc) as usize] = back;
+        }
     }
 
     /// Writes the units on each arc along a certificate or from the root to a seed into the place of that arc, and 0 into those of all
@@ -187,9 +202,10 @@ impl Residual {
         ensures units { (u v : SplitNode) (arc : ℕ) → LeadsTo self.now.arcs u v arc → slice_index units.new arc ≡ units_on (between self.now.arcs) u v }
         ensures steps { steps.new ≡ steps.old + arc_count self.now.arcs }
     {
+        units.fill(0);
         for arc in 0..self.first(2 * self.accounts + 3) {
             steps.tick();
-            units[arc as usize] = self.units_on(arc);
+            self.write_back(arc, units);
         }
     }
 
