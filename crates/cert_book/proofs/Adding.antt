@@ -1,5 +1,5 @@
 -- A book takes one change more.
-use Rattle.std.proofs.Common.{ℕ, Bool, false, ◌≡◌, ◌+◌, refl, arith, sym, ap, ◌∙◌, List, [], ◌∷◌, ◌++◌, length, fold}
+use Rattle.std.proofs.Common.{ℕ, Bool, false, ◌≡◌, ◌+◌, refl, arith, sym, ap, subst, ◌∙◌, List, [], ◌∷◌, ◌++◌, length, fold, Result, Ok, Err, IfOk}
 use Rattle.std.proofs.lemmas.List.{append-nil, length_push}
 use Rattle.std.proofs.lemmas.List.Elements.{filter_map-append}
 use Rattle.std.proofs.lemmas.List.Sums.{fold-append}
@@ -12,8 +12,12 @@ use Rattle.cert_log.proofs.Counting.{count_push}
 use Rattle.frozen.specs.Parts.{Part}
 use Rattle.frozen.specs.Writes.{graded}
 use Rattle.frozen.specs.Sites.{names, is_seed, standing, certs}
-use Rattle.cert_book.specs.Books.{Book, book_of, Adds}
+use Rattle.frozen.specs.Revision.{Revision, revision_of}
+use Rattle.trust_types.specs.declared.records.Record.{Record}
+use Rattle.trust_types.specs.Kept.{changes}
+use Rattle.cert_book.specs.Books.{Book, book_of, Adds, Freezes}
 use Rattle.cert_book.specs.inner.Blocks.{IsAfter, standing_after, replaced, placed}
+use Rattle.cert_book.proofs.Keeping.{no_standing, no_seed}
 
 -- The certificates of changes with one more.
 certs_push : (changes : List Change) (change : Change) → certs_among (changes ++ change ∷ []) ≡ certs_among changes ++ certs_among (change ∷ [])
@@ -53,3 +57,31 @@ adds n old new ps qs change after table_is opening changes is =
     let count : certs qs ≡ standing_count (certs_among (changes ++ change ∷ [])) =
     count_after changes change ps (certs ps) (certs qs) after.certs (ap (λ (b : Book). b.certs) is) (λ a b. ap (λ (x : Book). x.standing a b) is) in
     λ i. record { revision = revision i; table = table i; names = named i; is_seed = λ a. seeds a i; standing = λ a b. stands a b i; certs = count i }
+
+-- Another table leaves the parts as they are.
+pub tabled_after : (table : Table) (ps : List Part) → IsAfter (Tabled table) ps ps
+tabled_after table ps = record { names = sym (append-nil (names ps)); seeds = λ a. refl; standing = λ a b. refl; certs = refl }
+
+-- A revision of a book's parts is that of its records.
+pub frozen_records : (n : ℕ) (table : Table) (ps : List Part) (r : Revision) → r ≡ revision_of n table ps → (opening : Table) (k : List Record) → book_at n table ps ≡ book_of opening (changes k) → Freezes opening k r
+frozen_records n table ps r is opening k e =
+    let here : Freezes opening k (revision_of n table ps) = record {
+      graph = record {
+        accounts = ap (λ (b : Book). length b.names) e;
+        seeds = λ a lt. ap (λ (b : Book). b.is_seed a) e;
+        standing = λ a c lt_a lt_c. ap (λ (b : Book). b.standing a c) e;
+      };
+      names = ap (λ (b : Book). b.names) e;
+      number = ap (λ (b : Book). b.revision) e;
+      table = ap (λ (b : Book). b.table) e;
+    } in
+    subst (λ (x : Revision). Freezes opening k x) (sym is) here
+
+-- What is known of a value is known of it where there is one.
+pub if_ok : {A E : Type 0} {P Q : A → Type 0} (r : Result A E) → ((x : A) → P x → Q x) → IfOk r P → IfOk r Q
+if_ok (Ok x) f h = f x h
+if_ok (Err e) f h = h
+
+-- Without changes.
+pub new_book : (table : Table) → book_at 0 table [] ≡ book_of table []
+new_book table = λ i. record { revision = 0; table = table; names = []; is_seed = λ a. no_seed a i; standing = λ a b. no_standing a b i; certs = 0 }

@@ -7,3 +7,7 @@ mod Joining
 mod Adding
 mod Listing
 mod Rising
+mod Reading
+mod Seeding
+mod Passing
+mod Keeping

@@ -1,5 +1,5 @@
 -- The items of a range that pass a test, and numbers that list them.
-use Rattle.std.proofs.Common.{ℕ, zero, suc, Bool, true, false, cond, ◌≡◌, ◌≢◌, ◌≤◌, ◌<◌, ◌+◌, inl, inr, refl, arith, sym, ap, ◌∙◌, List, [], ◌∷◌, ◌++◌, length, map, Some, slice_get, length-append}
+use Rattle.std.proofs.Common.{ℕ, zero, suc, Bool, true, false, cond, ◌≡◌, ◌≢◌, ◌≤◌, ◌<◌, ◌+◌, inl, inr, refl, arith, sym, ap, subst, ◌∙◌, List, [], ◌∷◌, ◌++◌, length, map, Some, slice_get, length-append}
 use Rattle.std.specs.List.{filter, range_with_len}
 use Rattle.std.proofs.lemmas.Bool.{cases_eq, cases_lt}
 use Rattle.std.proofs.lemmas.List.{append-nil}
@@ -31,12 +31,15 @@ none_listed : (passes : ℕ → Bool) (n : ℕ) (number : ℕ → ℕ) → Lists
 none_listed passes zero number are = refl
 none_listed passes (suc n) number are = absurd (omega (arith, are.below 0 (omega arith)))
 
+clash : (b : Bool) → b ≡ true → b ≡ false → ⊥
+clash b t f = absurd (cc)
+
 -- Where the last number of the range doesn't pass, the numbers are those below it.
 fewer : (passes : ℕ → Bool) (m n : ℕ) (number : ℕ → ℕ) → passes m ≡ false → Lists passes (suc m) n number → Lists passes m n number
 fewer passes m n number fails are = record {
   rises = are.rises;
   below = λ i lt. elim (cases_eq (number i) m) [
-    | inl same ↦ absurd (cc)
+    | inl same ↦ absurd (clash (passes m) (ap passes (sym same) ∙ are.pass i lt) fails)
     | inr apart ↦ omega (arith, are.below i lt, apart)
   ];
   pass = are.pass;
@@ -74,6 +77,11 @@ with_last xs n item number are = record {
   ];
 }
 
+with_front : {X : Type 0} (test : X → Bool) (item : ℕ → X) (m n k : ℕ) (number : ℕ → ℕ) → k + 1 ≡ n → number k ≡ m → AreItems (passing test item m) k item number → AreItems (passing test item m ++ item m ∷ []) n item number
+with_front test item m n k number end last are =
+    subst (λ (j : ℕ). AreItems (passing test item m ++ item m ∷ []) j item number) end
+    (subst (λ (x : ℕ). AreItems (passing test item m ++ item x ∷ []) (k + 1) item number) last (with_last (passing test item m) k item number are))
+
 listed_by : {X : Type 0} (test : X → Bool) (item : ℕ → X) (m n : ℕ) (number : ℕ → ℕ) (holds : Bool) → test (item m) ≡ holds → Lists (λ c. test (item c)) (suc m) n number
     → ((k : ℕ) → Lists (λ c. test (item c)) m k number → AreItems (passing test item m) k item number) → AreItems (passing test item m ++ cond holds (item m ∷ []) []) n item number
 listed_by test item m n number false is are ih =
@@ -82,11 +90,20 @@ listed_by test item m n number false is are ih =
 listed_by test item m n number true is are ih =
     let there = are.whole m (omega arith) is in
     let end : there.0 + 1 ≡ n = last_place (λ c. test (item c)) m n number there.0 are there.1 there.2 in
-    let shorter : AreItems (passing test item m) there.0 item number = ih there.0 (front (λ c. test (item c)) m there.0 number there.2 (rw end are)) in
-    rw (← end, ← there.2) (with_last (passing test item m) there.0 item number shorter)
+    let long : Lists (λ c. test (item c)) (suc m) (there.0 + 1) number = subst (λ (j : ℕ). Lists (λ c. test (item c)) (suc m) j number) (sym end) are in
+    with_front test item m n there.0 number end there.2 (ih there.0 (front (λ c. test (item c)) m there.0 number there.2 long))
 
 pub listed : {X : Type 0} (test : X → Bool) (item : ℕ → X) (m n : ℕ) (number : ℕ → ℕ) → Lists (λ c. test (item c)) m n number → AreItems (passing test item m) n item number
 listed test item zero n number are =
     let none : n ≡ 0 = none_listed (λ c. test (item c)) n number are in
     record { long = sym none; each = λ i lt. absurd (omega (arith, none)) }
 listed test item (suc m) n number are = rw (more test item m) (listed_by test item m n number (test (item m)) refl are (λ k. listed test item m k number))
+
+at_least : (passes : ℕ → Bool) (m n : ℕ) (number : ℕ → ℕ) → Lists passes m n number → (i : ℕ) → i < n → i ≤ number i
+at_least passes m n number are zero lt = omega arith
+at_least passes m n number are (suc i) lt = omega (arith, at_least passes m n number are i (omega arith), are.rises i (suc i) (omega arith) lt)
+
+-- There are no more of them than numbers below m.
+pub lists_few : (passes : ℕ → Bool) (m n : ℕ) (number : ℕ → ℕ) → Lists passes m n number → n ≤ m
+lists_few passes m zero number are = omega arith
+lists_few passes m (suc n) number are = omega (arith, at_least passes m (suc n) number are n (omega arith), are.below n (omega arith))

@@ -62,13 +62,15 @@ impl Blocks {
 
     pub(crate) fn accounts(&self) -> u32
         ensures value { result ≡ accounts self.now.parts }
+        ensures few { result ≤ MOST_ACCOUNTS }
         ensures parts { AreParts self.now.parts }
     {
         self.account_count
     }
 
     pub(crate) fn certs(&self) -> u32
-        ensures { result ≡ certs self.now.parts }
+        ensures value { result ≡ certs self.now.parts }
+        ensures few { result ≤ MOST_CERTS }
     {
         self.cert_count
     }
@@ -80,6 +82,7 @@ impl Blocks {
         ensures row { account % 64 < count result.now.part }
         ensures own { 0 < degree_in result.now.part (account % 64) → giver_in result.now.part (account % 64) ≡ account }
         ensures named { slice_get (names self.now.parts) account ≡ slice_get result.now.part.names (account % 64) }
+        ensures parts { AreParts self.now.parts }
     {
         block_of(&self.slots[(account.0 / 64) as usize])
     }
@@ -141,6 +144,7 @@ impl Blocks {
         requires new { number_of (names self.old.parts) name ≡ None }
         ensures account { result ≡ accounts self.old.parts }
         ensures joined { IsAfter (Joined name) self.old.parts self.new.parts }
+        ensures parts { AreParts self.old.parts }
         ensures steps { steps.new ≡ steps.old + 1 }
     {
         if ((self.account_count / 64) as usize) < self.slots.len() {
@@ -158,6 +162,7 @@ impl Blocks {
         requires inside { accounts self.old.parts / 64 < length self.old.parts }
         ensures account { result ≡ accounts self.old.parts }
         ensures joined { IsAfter (Joined name) self.old.parts self.new.parts }
+        ensures parts { AreParts self.old.parts }
         ensures steps { steps.new ≡ steps.old + 1 }
     {
         let account = self.account_count;
@@ -175,6 +180,7 @@ impl Blocks {
         requires past { length self.old.parts ≤ accounts self.old.parts / 64 }
         ensures account { result ≡ accounts self.old.parts }
         ensures joined { IsAfter (Joined name) self.old.parts self.new.parts }
+        ensures parts { AreParts self.old.parts }
         ensures steps { steps.new ≡ steps.old + 1 }
     {
         let account = self.account_count;
@@ -189,7 +195,8 @@ impl Blocks {
     pub(crate) fn mark(&mut self, account: AccountNo, seed: bool)
         requires ready { self.old.ready ≡ Some account }
         requires account { account < accounts self.old.parts }
-        ensures { IsAfter (if seed then Seeded account else Unseeded account) self.old.parts self.new.parts }
+        ensures marked { IsAfter (if seed then Seeded account else Unseeded account) self.old.parts self.new.parts }
+        ensures parts { AreParts self.old.parts }
     {
         seed_slot(
             &mut self.slots[(account.0 / 64) as usize],
@@ -231,6 +238,7 @@ impl Blocks {
         ensures same { self.new ≡ record self.old { ready = None } }
         ensures shared { IfOk result (λ blocks. shared_parts blocks.items ≡ self.old.parts) }
         ensures few { length self.old.parts ≤ parts_for (accounts self.old.parts) }
+        ensures parts { AreParts self.old.parts }
         ensures steps { steps.new ≤ steps.old + length self.old.parts }
     {
         self.ready = None;

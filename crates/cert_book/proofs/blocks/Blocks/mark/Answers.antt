@@ -28,8 +28,8 @@ invariant_of-self c =
     let set_is = rw c.account.view_is at c.seed_slot.ensures.set in
     rw c.account.view_is (marked_book _ _ _ c.args.account c.index_mut.result.now _ c.args.seed c.self.invariant.0 below (rw c.account.view_is at c.index_mut.ensures.value) set_is c.seed_slot.ensures.held, tt)
 
-pub returns : goal.returns
-returns c =
+pub returns-clause-marked : goal.returns-clause-marked
+returns-clause-marked c =
     let below = rw (← c.self.view_is) at c.requires.account in
     let set_is = rw c.account.view_is at c.seed_slot.ensures.set in
     rw (← c.self.view_is, c.account.view_is) (marked_after _ _ _ c.args.account c.index_mut.result.now c.seed_slot.new.slot c.args.seed c.self.invariant.0 below (rw c.account.view_is at c.index_mut.ensures.value) set_is)

@@ -7,7 +7,7 @@ use Rattle.cert_book.proofs.blocks.Blocks.put.Goals as goal
 
 pub index_mut-requires : goal.index_mut-requires
 index_mut-requires g c =
-    let below = rw (← c.self.view_is, ← c.author-2.view_is) at c.requires.giver in
+    let below = rw (← c.self.view_is, ← c.author.view_is) at c.requires.giver in
     let n : length c.self.inside.slots.items ≡ vec_len c.self.inside.slots = search rules in
     omega (arith, n, slot_inside _ _ _ _ c.self.invariant.0 below)
 
@@ -16,17 +16,17 @@ put_slot-requires-clause-ready g c =
     let below = rw (← c.self.view_is) at c.requires.giver in
     let room = rw (← c.self.view_is) at c.requires.ready in
     let ready = rw room at c.self.invariant.1 in
-    ready_read _ _ _ (slot_inside _ _ _ _ c.self.invariant.0 below) (rw c.author-2.view_is at c.index_mut.ensures.value) (ready.0 (slot_inside _ _ _ _ c.self.invariant.0 below))
+    ready_read _ _ _ (slot_inside _ _ _ _ c.self.invariant.0 below) (rw c.author.view_is at c.index_mut.ensures.value) (ready.0 (slot_inside _ _ _ _ c.self.invariant.0 below))
 
 pub put_slot-requires-clause-row : goal.put_slot-requires-clause-row
 put_slot-requires-clause-row g c =
     let below = rw (← c.self.view_is) at c.requires.giver in
-    row_here _ _ _ _ _ c.self.invariant.0 below (rw c.author-2.view_is at c.index_mut.ensures.value)
+    row_here _ _ _ _ _ c.self.invariant.0 below (rw c.author.view_is at c.index_mut.ensures.value)
 
 pub put_slot-requires-clause-own : goal.put_slot-requires-clause-own
 put_slot-requires-clause-own g c =
     let below = rw (← c.self.view_is) at c.requires.giver in
-    own_here _ _ _ _ _ c.self.invariant.0 below (rw c.author-2.view_is at c.index_mut.ensures.value)
+    own_here _ _ _ _ _ c.self.invariant.0 below (rw c.author.view_is at c.index_mut.ensures.value)
 
 pub counted-self-inside-requires-clause-some : goal.counted-self-inside-requires-clause-some
 counted-self-inside-requires-clause-some g c =
@@ -45,7 +45,7 @@ counted-self-inside-requires-clause-some g c =
       taker = rw (← c.self.view_is) at c.requires.taker;
       others = c.requires.others;
       fits = rw (← c.self.view_is) at c.requires.fits;
-      read = rw c.author-2.view_is at c.index_mut.ensures.value;
+      read = rw c.author.view_is at c.index_mut.ensures.value;
       put = c.put_slot.ensures.put;
       part = c.put_slot.ensures.part;
       held = c.put_slot.ensures.held;
@@ -70,13 +70,13 @@ invariant_of-self g c =
       taker = rw (← c.self.view_is) at c.requires.taker;
       others = c.requires.others;
       fits = rw (← c.self.view_is) at c.requires.fits;
-      read = rw c.author-2.view_is at c.index_mut.ensures.value;
+      read = rw c.author.view_is at c.index_mut.ensures.value;
       put = c.put_slot.ensures.put;
       part = c.put_slot.ensures.part;
       held = c.put_slot.ensures.held;
     } in
     let before = rw (← c.self.view_is) at c.standing-before.ensures in
-    rw c.author-2.view_is (entry_book entry (rw before at c.counted-self-inside.ensures), tt)
+    rw c.author.view_is (entry_book entry (rw before at c.counted-self-inside.ensures), tt)
 
 pub returns-clause-put : goal.returns-clause-put
 returns-clause-put g c =
@@ -95,9 +95,9 @@ returns-clause-put g c =
       taker = rw (← c.self.view_is) at c.requires.taker;
       others = c.requires.others;
       fits = rw (← c.self.view_is) at c.requires.fits;
-      read = rw c.author-2.view_is at c.index_mut.ensures.value;
+      read = rw c.author.view_is at c.index_mut.ensures.value;
       put = c.put_slot.ensures.put;
       part = c.put_slot.ensures.part;
       held = c.put_slot.ensures.held;
     } in
-    rw (← c.self.view_is, c.author-2.view_is) (entry_after entry)
+    rw (← c.self.view_is, c.author.view_is) (entry_after entry)
