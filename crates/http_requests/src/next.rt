@@ -56,12 +56,7 @@ pub(crate) fn request_of(
     })
 }
 
-fn route_of(
-    alloc: Global,
-    paths: &Paths,
-    head: &Head<'_>,
-    body: &[u8],
-) -> Result<Route, NoMemory>
+fn route_of(alloc: Global, paths: &Paths, head: &Head<'_>, body: &[u8]) -> Result<Route, NoMemory>
     ensures { IfOk result (λ route. route ≡ route_of head.now body.now) }
 {
     let path = path_of(head.target());

@@ -107,7 +107,12 @@ impl Progress {
     }
 
     /// The request that a head and its body are. The first one makes what finds paths.
-    fn request_of(&mut self, alloc: Global, head: &Head<'_>, body: &[u8]) -> Result<Request, NoMemory>
+    fn request_of(
+        &mut self,
+        alloc: Global,
+        head: &Head<'_>,
+        body: &[u8],
+    ) -> Result<Request, NoMemory>
         ensures request { IfOk result (λ request. request ≡ request_of head.now body.now) }
         ensures scan { self.new.scan ≡ self.old.scan }
         ensures least { self.new.least ≡ self.old.least }

@@ -28,7 +28,7 @@ returns-in-Ok-request_of-clause-answer c =
     let head = rw c.split_at.ensures.front at c.in-Some.ensures in
     let there : c.in-Ok.length ≤ length (drop c.args.end c.args.bytes.now) = rw c.split_at.ensures.back at c.if-rest-length.false in
     let whole = asked-whole c.args.bytes.now c.args.end c.requires.front c.in-Some.head c.in-Ok.length head (sym c.in-Ok.ensures) there in
-    let request = rw c.split_at.ensures.back at c.in-Ok-request_of.ensures in
+    let request = rw c.split_at.ensures.back at c.in-Ok-request_of.ensures.request in
     subst (λ (r : Request). IsRequest c.args.bytes.now (Whole r (c.args.end + c.in-Ok.length))) (sym request) whole
 
 pub returns-in-Err-request_of-clause-answer : goal.returns-in-Err-request_of-clause-answer
