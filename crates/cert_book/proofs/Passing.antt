@@ -1,12 +1,10 @@
 -- What a change is that a judge accepts.
-use Rattle.std.proofs.Common.{ℕ, Bool, true, false, not, ◌&&◌, ◌==◌, nat_lt, nat_le, if◌then◌else◌, ◌≡◌, ◌≢◌, ◌≤◌, ◌<◌, ◌+◌, inl, inr, refl, arith, sym, ap, subst, ◌∙◌, List, length, get_or, Option, Some, None, Result, Ok, Err, All, OnOk}
-use Rattle.std.specs.List.{list_any, range_with_len, Any, Contains}
+use Rattle.std.proofs.Common.{ℕ, Bool, true, false, not, ◌&&◌, ◌==◌, nat_lt, nat_le, if◌then◌else◌, ◌≡◌, ◌≢◌, ◌≤◌, ◌<◌, ◌+◌, refl, arith, sym, ap, subst, ◌∙◌, List, length, Option, Some, None, Result, Ok, Err, All, OnOk}
+use Rattle.std.specs.List.{Any, Contains}
 use Rattle.std.proofs.lemmas.Bool.Decides.{nat_tests}
 use Rattle.std.proofs.lemmas.List.{get_or_default}
 use Rattle.std.proofs.lemmas.List.Folds.{Any-from_list_any}
-use Rattle.std.specs.Str.{bytes_eq}
 use Rattle.std.proofs.lemmas.Slice.Eq.{bytes_eq-Decides}
-use Rattle.trust_types.specs.declared.levels.Level.{Level}
 use Rattle.trust_types.specs.declared.graphs.Cert.{Cert}
 use Rattle.trust_types.specs.declared.limits.TheConstants.{MOST_ACCOUNTS, MOST_CERTS}
 use Rattle.trust_types.specs.Levels.{is_grade, rank}
@@ -15,9 +13,8 @@ use Rattle.trust_types.specs.NameLists.{number_of}
 use Rattle.trust_types.specs.Tables.{Table, has_level}
 use Rattle.trust_types.specs.Changes.{Joined, Seeded, Unseeded, Certified, Tabled}
 use Rattle.name_index.proofs.Indexing.{differs, not_found}
-use Rattle.frozen.specs.Writes.{graded}
 use Rattle.cert_book.specs.declared.judging.CertFault.{CertFault}
-use Rattle.cert_book.specs.declared.judging.CertFault.TheVariants.{NameTaken, NotSeed, LastSeed}
+use Rattle.cert_book.specs.declared.judging.CertFault.TheVariants.{NotSeed, LastSeed}
 use Rattle.cert_book.specs.Books.{Book, IsAccount, accounts, Follows, HasPlace}
 use Rattle.cert_book.specs.Judged.{Judged, ◌>>=◌, fault_if, fault_unless, not_taken, has_other_seed, same_level, same_table, judged_name, judged_seeding, judged_unseeding, judged_certifying, judged_table}
 

@@ -1,10 +1,9 @@
 -- How many accounts are seeds.
-use Rattle.std.proofs.Common.{ℕ, zero, suc, Bool, true, false, not, cond, ◌||◌, ◌&&◌, ◌==◌, if◌then◌else◌, nat_lt, ◌≡◌, ◌≢◌, ◌≤◌, ◌<◌, ◌+◌, inl, inr, refl, arith, sym, ap, ◌∙◌, List, [], ◌∷◌, ◌++◌}
+use Rattle.std.proofs.Common.{ℕ, zero, suc, Bool, true, false, not, ◌||◌, ◌&&◌, ◌==◌, if◌then◌else◌, nat_lt, ◌≡◌, ◌≢◌, ◌<◌, ◌+◌, inl, inr, refl, arith, sym, ap, ◌∙◌, [], ◌∷◌, ◌++◌}
 use Rattle.std.specs.List.{list_any, range_with_len}
 use Rattle.std.proofs.lemmas.Bool.{cases_eq}
 use Rattle.std.proofs.lemmas.Bool.Decides.{nat_tests}
 use Rattle.std.proofs.lemmas.List.Folds.{list_any-append}
-use Rattle.trust_types.specs.Sum.{sum_below}
 use Rattle.trust_types.proofs.Sums.{sum_below-eq}
 use Rattle.cert_book.specs.inner.Keeping.{seeds_before}
 

@@ -99,6 +99,7 @@ impl Blocks {
         requires { account ≤ accounts self.old.parts }
         ensures same { self.new.parts ≡ self.old.parts }
         ensures ready { OnOk result (self.new.ready ≡ Some account) }
+        ensures steps { steps.new ≤ steps.old + (65 + certs self.old.parts) }
     {
         if ((account / 64) as usize) < self.slots.len() {
             self.ready_block(account, steps)
@@ -112,6 +113,7 @@ impl Blocks {
         requires { account / 64 < length self.old.parts }
         ensures same { self.new.parts ≡ self.old.parts }
         ensures ready { OnOk result (self.new.ready ≡ Some account) }
+        ensures steps { steps.new ≤ steps.old + (65 + certs self.old.parts) }
     {
         self.ready = None;
         ready_slot(
@@ -128,6 +130,7 @@ impl Blocks {
         requires { length self.old.parts ≤ account / 64 }
         ensures same { self.new.parts ≡ self.old.parts }
         ensures ready { OnOk result (self.new.ready ≡ Some account) }
+        ensures steps { steps.new ≤ steps.old + 1 }
     {
         self.ready = None;
         self.slots.reserve(1)?;
@@ -265,6 +268,7 @@ fn counted(certs: u32, before: Level, after: Level) -> u32
 fn spare_block<L: Ledger>(alloc: Global, steps: &mut Steps<L>) -> Result<Block, NoMemory>
     ensures empty { IfOk result (λ b. b.part ≡ no_part) }
     ensures ready { IfOk result (λ b. b.has_room ≡ true) }
+    ensures steps { steps.new ≡ steps.old + 1 }
 {
     let mut block = Block::start(alloc, steps)?;
     block.reserve(0)?;

@@ -374,7 +374,8 @@ impl CertBook {
     /// Makes room for one addition: a join where neither account is given, a seed or its withdrawal where the subject alone is, a certificate where
     /// both are, and a table in each case. Room that was reserved before is given up. What the book says stays, whatever it answers.
     ///
-    /// It copies the one block that the addition writes where frozen graphs share it, and counts the steps of that.
+    /// It copies the one block that the addition writes where frozen graphs share it, and no other: that is a step an account and a certificate of
+    /// 64 accounts.
     ///
     /// # Errors
     /// [`NoMemory`] where there isn't enough. There is no room then.
@@ -389,6 +390,7 @@ impl CertBook {
         ensures room { OnOk result (self.new.room ≡ Some (record { author = author; subject = subject })) }
         ensures none { OnErr result (self.new.room ≡ None) }
         ensures same { self.new.revision ≡ self.old.revision }
+        ensures steps { steps.new ≤ steps.old + (65 + (book self.old).certs) }
     {
         self.room = None;
         reserve_beside(&author, &subject, &mut self.numbers, &mut self.takings)?;

@@ -1,4 +1,4 @@
-use Rattle.std.proofs.Common.{refl, sym, ◌∙◌}
+use Rattle.std.proofs.Common.{refl, ◌∙◌}
 use Rattle.cert_book.proofs.Passing.{none_has}
 use Rattle.cert_book.proofs.Keeping.{kept_join}
 use Rattle.cert_book.proofs.Adding.{adds}
