@@ -288,9 +288,9 @@ next_after slots t name added = map-append slot_part slots (t ∷ []) ∙ ap (λ
 
 held_push : (slots : List Slot) (t : Slot) → All HasBlock slots → HasBlock t → All HasBlock (slots ++ t ∷ [])
 held_push slots t all held = λ k d lt. elim (cases_lt k (length slots)) [
-      | inl inside ↦ subst HasBlock (sym (get_or_append_left slots (t ∷ []) d k inside)) (all k d inside)
-      | inr past ↦ subst HasBlock (sym (get_or_push slots t d k (omega (arith, length_push slots t)))) held
-    ]
+  | inl inside ↦ subst HasBlock (sym (get_or_append_left slots (t ∷ []) d k inside)) (all k d inside)
+  | inr past ↦ subst HasBlock (sym (get_or_push slots t d k (omega (arith, length_push slots t)))) held
+]
 
 pub next_book : (slots written : List Slot) (a c : ℕ) (name : List ℕ) (t : Slot) → AreSlots slots a c → length slots ≤ a / 64 → number_of (names (slot_parts slots)) name ≡ None → accounts (slot_parts slots) < MOST_ACCOUNTS
     → written ≡ slots ++ t ∷ [] → slot_part t ≡ with_account no_part name → HasBlock t → AreSlots written (a + 1) c

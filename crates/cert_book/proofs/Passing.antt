@@ -92,10 +92,10 @@ another b a e =
 
 pub unseeding_follows : (b : Book) (a : ℕ) (r : Judged) → IsAccount b a → r ≡ judged_unseeding b a → OnOk r (Follows b (Unseeded a))
 unseeding_follows b a r below is = on_ok r (Follows b (Unseeded a)) (λ ok. (
-    below,
-    passed_unless (b.is_seed a) _ (first (fault_unless (b.is_seed a) _) _ tt (sym is ∙ ok)),
-    another b a (passed_unless (has_other_seed b a) _ (later (fault_unless (b.is_seed a) _) _ tt (sym is ∙ ok))),
-  ))
+  below,
+  passed_unless (b.is_seed a) _ (first (fault_unless (b.is_seed a) _) _ tt (sym is ∙ ok)),
+  another b a (passed_unless (has_other_seed b a) _ (later (fault_unless (b.is_seed a) _) _ tt (sym is ∙ ok))),
+))
 
 four : (t1 t2 t3 t4 : Bool) (f1 f2 f3 f4 : CertFault) → (fault_if t1 f1 >>= λ _. (fault_unless t2 f2 >>= λ _. (fault_if t3 f3 >>= λ _. fault_if t4 f4))) ≡ Ok tt
     → (t1 ≡ false) × (t2 ≡ true) × (t3 ≡ false) × (t4 ≡ false)
@@ -143,9 +143,9 @@ same_tables t u same = both_true _ _ (same_test t.levels u.levels (ap (λ (x : T
 
 pub table_follows : (b : Book) (t : Table) (r : Judged) → r ≡ judged_table b t → OnOk r (Follows b (Tabled t))
 table_follows b t r is = on_ok r (Follows b (Tabled t)) (λ ok. (
-    not_below t.levels b.table.levels (passed_if (nat_lt t.levels b.table.levels) _ (first (fault_if (nat_lt t.levels b.table.levels) _) _ tt (sym is ∙ ok))),
-    λ same. contradiction (same_table t b.table) (same_tables t b.table same) (passed_if (same_table t b.table) _ (later (fault_if (nat_lt t.levels b.table.levels) _) _ tt (sym is ∙ ok))),
-  ))
+  not_below t.levels b.table.levels (passed_if (nat_lt t.levels b.table.levels) _ (first (fault_if (nat_lt t.levels b.table.levels) _) _ tt (sym is ∙ ok))),
+  λ same. contradiction (same_table t b.table) (same_tables t b.table same) (passed_if (same_table t b.table) _ (later (fault_if (nat_lt t.levels b.table.levels) _) _ tt (sym is ∙ ok))),
+))
 
 -- A word that is no name is no account's.
 pub unnamed : (names : List (List ℕ)) (word : List ℕ) → All IsName names → is_name word ≡ false → number_of names word ≡ None

@@ -1,6 +1,5 @@
 -- The rules of a book, said of the records that its changes come from.
-use Rattle.std.proofs.Common.{◌≡◌, ◌≤◌, ◌+◌, ℕ, ap, arith, refl, List, ◌++◌, ◌∷◌, []}
-use Rattle.trust_types.specs.declared.limits.TheConstants.{MOST_CERTS}
+use Rattle.std.proofs.Common.{◌≡◌, ◌+◌, ap, arith, refl, List, ◌++◌, ◌∷◌, []}
 use Rattle.trust_types.specs.declared.graphs.Cert.{Cert as Certificate}
 use Rattle.trust_types.specs.declared.records.Record.{Record}
 use Rattle.trust_types.specs.declared.records.Record.TheVariants.{Join, Seed, Unseed, Cert, Table, Diary, Article, Reply, Project}

@@ -1,5 +1,5 @@
 -- The rules of a book are those of kept records.
-use Rattle.std.specs.Prelude.{◌≡◌, ◌↔◌, List, IfSome}
+use Rattle.std.specs.Prelude.{◌↔◌, List, IfSome}
 use Rattle.trust_types.specs.declared.records.Record.{Record}
 use Rattle.trust_types.specs.Tables.{Table}
 use Rattle.trust_types.specs.Kept.{change_of, changes, Continues, Fits}

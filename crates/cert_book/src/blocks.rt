@@ -95,7 +95,11 @@ impl Blocks {
     }
 
     /// Makes the block ready that has the account, or that it is to join. It copies the block where that is shared.
-    pub(crate) fn reserve<L: Ledger>(&mut self, account: u32, steps: &mut Steps<L>) -> Result<(), NoMemory>
+    pub(crate) fn reserve<L: Ledger>(
+        &mut self,
+        account: u32,
+        steps: &mut Steps<L>,
+    ) -> Result<(), NoMemory>
         requires { account ≤ accounts self.old.parts }
         ensures same { self.new.parts ≡ self.old.parts }
         ensures ready { OnOk result (self.new.ready ≡ Some account) }
@@ -237,7 +241,10 @@ impl Blocks {
     }
 
     /// Makes every block a shared one, and lends them once more, in order. At most a step a block. No block is ready then, whatever it answers.
-    pub(crate) fn share<L: Ledger>(&mut self, steps: &mut Steps<L>) -> Result<Vec<Arc<Block>>, NoMemory>
+    pub(crate) fn share<L: Ledger>(
+        &mut self,
+        steps: &mut Steps<L>,
+    ) -> Result<Vec<Arc<Block>>, NoMemory>
         ensures same { self.new ≡ record self.old { ready = None } }
         ensures shared { IfOk result (λ blocks. shared_parts blocks.items ≡ self.old.parts) }
         ensures few { length self.old.parts ≤ parts_for (accounts self.old.parts) }

@@ -280,10 +280,16 @@ impl CertBook {
         ensures place { OnOk result (HasPlace (book self.now) (Certified cert.now)) }
     {
         fault_if(cert.from.0 == cert.to.0, CertFault::SelfCert)?;
-        fault_unless(self.caps.has(cert.level), CertFault::NoSuchLevel(self.caps.levels()))?;
+        fault_unless(
+            self.caps.has(cert.level),
+            CertFault::NoSuchLevel(self.caps.levels()),
+        )?;
         let stands = self.standing(cert.from, cert.to);
         fault_if(cert.level.rank() == stands.rank(), CertFault::Same)?;
-        fault_if(self.certs() >= MOST_CERTS && !stands.is_grade(), CertFault::CertsFull)
+        fault_if(
+            self.certs() >= MOST_CERTS && !stands.is_grade(),
+            CertFault::CertsFull,
+        )
     }
 
     /// Judges a new account by its word. Accepted, it is the account's name. It takes no memory.
