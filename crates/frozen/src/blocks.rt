@@ -1,15 +1,15 @@
 //! Blocks of accounts with neighbouring numbers.
 
-ghost use Rattle.std.specs.Prelude.{ℕ, ◌≡◌, ◌<◌, ◌≤◌, ◌+◌, ◌-◌, length, slice_get, slice_index, slice_set, IfOk, OnOk, IfErr, MatchResult, Some, true};
+ghost use Rattle.std.specs.Prelude.{ℕ, ◌≡◌, ◌<◌, ◌≤◌, ◌+◌, ◌-◌, length, slice_get, slice_index, slice_index_or, slice_set, IfOk, OnOk, OnErr, MatchResult, Some, true, false};
 ghost use Rattle.trust_types.specs.Levels.{IsGrade};
 ghost use Rattle.trust_types.specs.declared.levels.Level.TheVariants.{Observer};
 ghost use Rattle.trust_types.specs.Layout.{accounts as accounts_in, AreRows};
-ghost use Rattle.frozen.specs.Parts.{no_part, count, marks_seed, degree_in, giver_in, given_in, standing_in, IsPart};
+ghost use Rattle.frozen.specs.Parts.{no_part, count, marks_seed, degree_in, giver_in, taker_in, level_in, given_in, standing_in, IsPart};
 ghost use Rattle.frozen.specs.Writes.{with_account, with_seed, row_of, IsPut, IsWritten};
 ghost use Rattle.frozen.specs.inner.Rows.{IsFound, IsPlace};
 ghost use Rattle.frozen.specs.inner.Copies.{IsCopy};
 
-use crate::rows::{insert_reserved, lower, lowered, numbers_from, raise, taker_numbers};
+use crate::rows::{insert_reserved, lower, lowered, numbers_from, raise};
 use std::alloc::Global;
 use std::marker::Model;
 use std::sync::ledger::Ledger;
@@ -25,7 +25,7 @@ pub struct Block {
     givers: Vec<u32>,
     /// Where each row begins, and where the last one ends.
     starts: Vec<u32>,
-    takers: Vec<u32>,
+    takers: Vec<AccountNo>,
     levels: Vec<Level>,
     /// Whether there is room for one account and one certificate more.
     has_room: bool,
@@ -54,6 +54,7 @@ impl Block {
     /// [`NoMemory`] where there isn't enough for it, and for no other cause.
     pub fn start<L: Ledger>(alloc: Global, steps: &mut Steps<L>) -> Result<Block, NoMemory>
         ensures empty { IfOk result (λ b. b.part ≡ no_part) }
+        ensures room { IfOk result (λ b. b.has_room ≡ false) }
         ensures steps { steps.new ≡ steps.old + 1 }
     {
         steps.tick();
@@ -75,6 +76,7 @@ impl Block {
     /// [`NoMemory`] where there isn't enough for the copy, and for no other cause.
     pub fn copy<L: Ledger>(&self, steps: &mut Steps<L>) -> Result<Block, NoMemory>
         ensures copied { IfOk result (λ b. b.part ≡ self.now.part) }
+        ensures room { IfOk result (λ b. b.has_room ≡ false) }
         ensures steps { steps.new ≡ steps.old + (1 + count self.now.part + length self.now.part.takers) }
     {
         steps.tick();
@@ -126,7 +128,7 @@ impl Block {
                 &graph.starts()[first as usize..end as usize + 1],
                 begin,
             )?,
-            takers: taker_numbers(alloc, &graph.takers()[begin as usize..stop as usize])?,
+            takers: Vec::from_slice(alloc, &graph.takers()[begin as usize..stop as usize])?,
             levels: Vec::from_slice(alloc, &graph.levels()[begin as usize..stop as usize])?,
             has_room: false,
         })
@@ -185,9 +187,27 @@ impl Block {
         let at = self.starts[row as usize] as usize + i as usize;
         Cert {
             from: AccountNo(self.givers[row as usize]),
-            to: AccountNo(self.takers[at]),
+            to: self.takers[at],
             level: self.levels[at],
         }
+    }
+
+    /// Whom the account in a row certifies, in rising order.
+    pub fn takers(&self, row: u32) -> &[AccountNo]
+        requires { row < count self.now.part }
+        ensures count { length result.now ≡ degree_in self.now.part row }
+        ensures each { (i : ℕ) → i < degree_in self.now.part row → slice_index result.now i ≡ taker_in self.now.part row i }
+    {
+        &self.takers[self.starts[row as usize] as usize..self.starts[row as usize + 1] as usize]
+    }
+
+    /// At which levels the account in a row certifies, in rising order of taker.
+    pub fn levels(&self, row: u32) -> &[Level]
+        requires { row < count self.now.part }
+        ensures count { length result.now ≡ degree_in self.now.part row }
+        ensures each { (i : ℕ) → i < degree_in self.now.part row → slice_index_or result.now i Observer ≡ level_in self.now.part row i }
+    {
+        &self.levels[self.starts[row as usize] as usize..self.starts[row as usize + 1] as usize]
     }
 
     /// The level at which the account in a row certifies another; Observer where it doesn't. It looks at no more than the
@@ -196,14 +216,14 @@ impl Block {
         requires { row < count self.now.part }
         ensures { result ≡ standing_in self.now.part row to }
     {
-        match self.search(row as usize, to.0) {
+        match self.search(row as usize, to) {
             Ok(i) => self.levels[self.starts[row as usize] as usize + i],
             Err(_) => Level::Observer,
         }
     }
 
     /// Where a taker stands in a row, or else where it would.
-    fn search(&self, row: usize, to: u32) -> Result<usize, usize>
+    fn search(&self, row: usize, to: AccountNo) -> Result<usize, usize>
         requires { row < count self.now.part }
         ensures { MatchResult result (IsFound self.now.part row to) (IsPlace self.now.part row to) }
     {
@@ -215,10 +235,11 @@ impl Block {
     /// Makes room for one account and one certificate more. Any row can use it.
     ///
     /// # Errors
-    /// [`NoMemory`] where there isn't enough, or where the certificates would be 2^32. The block holds what it held.
+    /// [`NoMemory`] where there isn't enough, or where the certificates would be 2^32. The block is as it was.
     pub fn reserve(&mut self, row: u32) -> Result<(), NoMemory>
         requires { row < 64 }
         ensures room { OnOk result (self.new.has_room ≡ true) }
+        ensures kept { OnErr result (self.new.has_room ≡ self.old.has_room) }
         ensures same { self.new.part ≡ self.old.part }
     {
         if self.takers.len() >= u32::MAX as usize {
@@ -239,6 +260,7 @@ impl Block {
         requires room { self.old.has_room ≡ true }
         requires few { count self.old.part < 64 }
         ensures added { self.new.part ≡ with_account self.old.part name }
+        ensures ended { self.new.has_room ≡ false }
         ensures steps { steps.new ≡ steps.old + 1 }
     {
         steps.tick();
@@ -249,10 +271,11 @@ impl Block {
         self.has_room = false;
     }
 
-    /// Sets the seed mark of the account in a row.
+    /// Sets the seed mark of the account in a row. The room stays.
     pub fn set_seed(&mut self, row: u32, seed: bool)
         requires { row < count self.old.part }
-        ensures { self.new.part ≡ with_seed self.old.part row seed }
+        ensures set { self.new.part ≡ with_seed self.old.part row seed }
+        ensures room { self.new.has_room ≡ self.old.has_room }
     {
         self.seeds[row as usize] = seed;
     }
@@ -266,24 +289,25 @@ impl Block {
         requires own { 0 < degree_in self.old.part (row_of cert.from) → giver_in self.old.part (row_of cert.from) ≡ cert.from }
         ensures put { IsPut self.old.part self.new.part cert }
         ensures part { IsPart self.new.part }
+        ensures ended { self.new.has_room ≡ false }
         ensures steps { steps.new ≡ steps.old + 1 }
     {
         steps.tick();
         let row = cert.from.0 % 64;
         self.set_giver(row, cert.from.0);
-        match self.search(row as usize, cert.to.0) {
+        match self.search(row as usize, cert.to) {
             Ok(place) => {
                 if cert.level.is_grade() {
-                    self.replace(row as usize, place, cert.to.0, cert.level)
+                    self.replace(row as usize, place, cert.to, cert.level)
                 } else {
-                    self.remove(row as usize, place, cert.to.0, cert.level)
+                    self.remove(row as usize, place, cert.to, cert.level)
                 }
             }
             Err(place) => {
                 if cert.level.is_grade() {
-                    self.insert(row as usize, place, cert.to.0, cert.level)
+                    self.insert(row as usize, place, cert.to, cert.level)
                 } else {
-                    self.leave(row as usize, place, cert.to.0, cert.level)
+                    self.leave(row as usize, place, cert.to, cert.level)
                 }
             }
         }
@@ -299,13 +323,14 @@ impl Block {
     }
 
     /// One certificate more.
-    fn insert(&mut self, row: usize, place: usize, to: u32, level: Level)
+    fn insert(&mut self, row: usize, place: usize, to: AccountNo, level: Level)
         requires room { self.old.has_room ≡ true }
         requires row { row < count self.old.part }
         requires place { IsPlace self.old.part row to place }
         requires grade { IsGrade level }
         ensures written { IsWritten self.old.part self.new.part row to level }
         ensures part { IsPart self.new.part }
+        ensures ended { self.new.has_room ≡ false }
     {
         let at = self.starts[row] as usize + place;
         insert_reserved(&mut self.takers, at, to);
@@ -315,12 +340,13 @@ impl Block {
     }
 
     /// One certificate less.
-    fn remove(&mut self, row: usize, place: usize, to: u32, level: Level)
+    fn remove(&mut self, row: usize, place: usize, to: AccountNo, level: Level)
         requires row { row < count self.old.part }
         requires found { IsFound self.old.part row to place }
         requires none { level ≡ Observer }
         ensures written { IsWritten self.old.part self.new.part row to level }
         ensures part { IsPart self.new.part }
+        ensures ended { self.new.has_room ≡ false }
     {
         let at = self.starts[row] as usize + place;
         self.takers.remove(at);
@@ -330,12 +356,13 @@ impl Block {
     }
 
     /// The certificate at another level.
-    fn replace(&mut self, row: usize, place: usize, to: u32, level: Level)
+    fn replace(&mut self, row: usize, place: usize, to: AccountNo, level: Level)
         requires row { row < count self.old.part }
         requires found { IsFound self.old.part row to place }
         requires grade { IsGrade level }
         ensures written { IsWritten self.old.part self.new.part row to level }
         ensures part { IsPart self.new.part }
+        ensures ended { self.new.has_room ≡ false }
     {
         let at = self.starts[row] as usize + place;
         self.levels[at] = level;
@@ -343,12 +370,13 @@ impl Block {
     }
 
     /// Nothing stood for the taker, and nothing is to stand.
-    fn leave(&mut self, row: usize, place: usize, to: u32, level: Level)
+    fn leave(&mut self, row: usize, place: usize, to: AccountNo, level: Level)
         requires row { row < count self.old.part }
         requires place { IsPlace self.old.part row to place }
         requires none { level ≡ Observer }
         ensures written { IsWritten self.old.part self.new.part row to level }
         ensures part { IsPart self.new.part }
+        ensures ended { self.new.has_room ≡ false }
     {
         self.has_room = false;
     }

@@ -1,11 +1,12 @@
 //! Frozen graphs.
 
-ghost use Rattle.std.specs.Prelude.{◌≡◌, ◌<◌, ◌≤◌, ◌+◌, ◌*◌, ◌%◌, ℕ, length, vec_len, slice_get, All, IfOk, OnOk, Some};
+ghost use Rattle.std.specs.Prelude.{◌≡◌, ◌<◌, ◌≤◌, ◌+◌, ◌*◌, ◌%◌, ℕ, length, vec_len, slice_get, slice_index, slice_index_or, All, IfOk, OnOk, Some};
+ghost use Rattle.trust_types.specs.declared.levels.Level.TheVariants.{Observer};
 ghost use Rattle.trust_types.specs.Certs.{CanStand};
 ghost use Rattle.trust_types.specs.NameLists.{AreApart, number_of};
 ghost use Rattle.trust_types.specs.Sum.{sum_below};
 ghost use Rattle.frozen.specs.Parts.{count, degree_in, giver_in};
-ghost use Rattle.frozen.specs.Sites.{AreParts, certs, degree, part_of, parts_for, shared_parts};
+ghost use Rattle.frozen.specs.Sites.{AreParts, certs, degree, taker, level_given, part_of, parts_for, shared_parts};
 ghost use Rattle.frozen.specs.Revision.{Freezes, certificates, revision_of};
 
 use crate::blocks::Block;
@@ -15,7 +16,8 @@ use std::marker::Model;
 use std::sync::Arc;
 use std::sync::ledger::Ledger;
 use trust_types::{
-    AccountNo, Caps, Cert, CertGraph, CertList, MOST_ACCOUNTS, MOST_CERTS, Name, NoMemory, Steps,
+    AccountNo, Caps, Cert, CertGraph, CertList, Level, MOST_ACCOUNTS, MOST_CERTS, Name, NoMemory,
+    Steps,
 };
 
 /// One revision of a site: its accounts, seeds and standing certificates, with the capacity table. It never changes, and is
@@ -126,8 +128,8 @@ impl Frozen {
         &self.caps
     }
 
-    /// The block that has an account.
-    fn block(&self, account: AccountNo) -> &Block
+    /// The block that has an account, in the row of the account's number modulo 64.
+    pub fn block(&self, account: AccountNo) -> &Block
         requires { account < (certificates self.now).accounts }
         ensures part { result.now.part ≡ part_of self.now.parts account }
         ensures row { account % 64 < count result.now.part }
@@ -135,6 +137,24 @@ impl Frozen {
         ensures named { slice_get self.now.names account ≡ slice_get result.now.part.names (account % 64) }
     {
         &self.blocks[(account.0 / 64) as usize]
+    }
+
+    /// Whom an account certifies, in rising order.
+    pub fn takers(&self, account: AccountNo) -> &[AccountNo]
+        requires { account < (certificates self.now).accounts }
+        ensures count { length result.now ≡ degree self.now.parts account }
+        ensures each { (i : ℕ) → i < degree self.now.parts account → slice_index result.now i ≡ taker self.now.parts account i }
+    {
+        self.block(account).takers(account.0 % 64)
+    }
+
+    /// At which levels an account certifies, in rising order of taker.
+    pub fn levels(&self, account: AccountNo) -> &[Level]
+        requires { account < (certificates self.now).accounts }
+        ensures count { length result.now ≡ degree self.now.parts account }
+        ensures each { (i : ℕ) → i < degree self.now.parts account → slice_index_or result.now i Observer ≡ level_given self.now.parts account i }
+    {
+        self.block(account).levels(account.0 % 64)
     }
 
     /// The name of an account.

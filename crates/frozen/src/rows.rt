@@ -6,7 +6,6 @@ ghost use Rattle.frozen.specs.inner.Rows.{IsRaised};
 ghost use Rattle.frozen.specs.inner.Copies.{AreFrom, AreLowered};
 
 use std::alloc::{AllocError, Global};
-use trust_types::AccountNo;
 
 /// Inserts an item where there is room for it.
 pub fn insert_reserved<T: Drop>(items: &mut Vec<T>, at: usize, item: T)
@@ -60,11 +59,4 @@ pub fn lowered(alloc: Global, numbers: &[u32], base: u32) -> Result<Vec<u32>, Al
         lowered.push_reserved(*number - base);
     }
     Ok(lowered)
-}
-
-/// The accounts' numbers.
-pub fn taker_numbers(alloc: Global, takers: &[AccountNo]) -> Result<Vec<u32>, AllocError>
-    ensures { IfOk result (λ numbers. numbers.items ≡ takers.now) }
-{
-    takers.iter().map(|taker| taker.0).collect(alloc)
 }

@@ -16,8 +16,8 @@ invariant_of-result g c = (
       (c.in_ok-from_slice-2.ensures.items ∙ ap (λ (xs : List Bool). between c.args.first c.args.end xs) c.seeds.ensures)
       c.in_ok-numbers_from.ensures
       (subst (λ (xs : List ℕ). AreLowered (between c.args.first (c.args.end + 1) xs) c.in_ok-lowered.field-0.items c.certs_between-begin.result.0) c.starts.ensures c.in_ok-lowered.ensures)
-      (c.in_ok-taker_numbers.ensures ∙ ap (λ (xs : List ℕ). between c.certs_between-begin.result.0 c.certs_between-begin.result.1 xs) c.takers.ensures)
-      (c.in_ok-from_slice-3.ensures.items ∙ ap (λ (xs : List Level). between c.certs_between-begin.result.0 c.certs_between-begin.result.1 xs) c.levels.ensures)).0,
+      (c.in_ok-from_slice-3.ensures.items ∙ ap (λ (xs : List ℕ). between c.certs_between-begin.result.0 c.certs_between-begin.result.1 xs) c.takers.ensures)
+      (c.in_ok-from_slice-4.ensures.items ∙ ap (λ (xs : List Level). between c.certs_between-begin.result.0 c.certs_between-begin.result.1 xs) c.levels.ensures)).0,
   λ (h : false ≡ true). cc,
 )
 
@@ -28,5 +28,5 @@ returns-clause-copied g c =
     (c.in_ok-from_slice-2.ensures.items ∙ ap (λ (xs : List Bool). between c.args.first c.args.end xs) c.seeds.ensures)
     c.in_ok-numbers_from.ensures
     (subst (λ (xs : List ℕ). AreLowered (between c.args.first (c.args.end + 1) xs) c.in_ok-lowered.field-0.items c.certs_between-begin.result.0) c.starts.ensures c.in_ok-lowered.ensures)
-    (c.in_ok-taker_numbers.ensures ∙ ap (λ (xs : List ℕ). between c.certs_between-begin.result.0 c.certs_between-begin.result.1 xs) c.takers.ensures)
-    (c.in_ok-from_slice-3.ensures.items ∙ ap (λ (xs : List Level). between c.certs_between-begin.result.0 c.certs_between-begin.result.1 xs) c.levels.ensures)).1
+    (c.in_ok-from_slice-3.ensures.items ∙ ap (λ (xs : List ℕ). between c.certs_between-begin.result.0 c.certs_between-begin.result.1 xs) c.takers.ensures)
+    (c.in_ok-from_slice-4.ensures.items ∙ ap (λ (xs : List Level). between c.certs_between-begin.result.0 c.certs_between-begin.result.1 xs) c.levels.ensures)).1
