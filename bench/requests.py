@@ -4,8 +4,9 @@
     bench/requests.py [RUNS]
 
 A thousand requests of a kind are read a thousand times each by the program of the crate `request_cases`. The processor time of a run, divided by a
-million, is shown in microseconds a request. The aim is at most 5 for a head of ten fields. Nothing depends on these numbers. The program is built
-first where it has to be. It runs so many times (5 where none is named), and the least time is shown.
+million, is shown in microseconds a request. The aim is at most 5 for a head of ten fields. Then a thousand heads, or bodies, of a length come byte
+by byte. The time is shown in nanoseconds a byte: it grows with the length where the cost isn't linear. Nothing depends on these numbers. The program
+is built first where it has to be. It runs so many times (5 where none is named), and the least time is shown.
 """
 
 import subprocess
@@ -41,6 +42,16 @@ KINDS = {
     "no path, ten fields": lambda n: f"GET /nothing/{n} HTTP/1.1\\r\\n{FIELDS}\\r\\n",
 }
 
+LENGTHS = (1_024, 4_096, 16_384)
+
+
+def head_of(length):
+    return f"GET / HTTP/1.0\\r\\nx: \\{length - 23}y\\r\\n\\r\\n"
+
+
+def body_of(length):
+    return f"POST /logout HTTP/1.1\\r\\n{FIELDS}Content-Length: {length}\\r\\n\\r\\n\\{length}y"
+
 
 def build():
     with open(CRATE / "stdin", "rb") as cases:
@@ -50,14 +61,23 @@ def build():
 def main():
     runs = int(sys.argv[1]) if len(sys.argv) > 1 else 5
     build()
-    print(f"{'microseconds a request':<28} {'read':>8}")
     with tempfile.TemporaryDirectory() as folder:
         path = Path(folder) / "requests"
-        for kind, request in KINDS.items():
-            lines = "\n".join(request(n) for n in range(REQUESTS))
-            path.write_text(f"reads: {kind}\n{lines}\n\n", encoding="ascii")
+
+        def time_of(heading, lines):
+            path.write_text(f"{heading}\n" + "\n".join(lines) + "\n\n", encoding="ascii")
             [run] = measure_in_turn([[CRATE / "out" / "request_cases"]], path, runs)
-            print(f"{kind:<28} {run.processor / MILLION * 1e6:>8.2f}")
+            return run.processor
+
+        print(f"{'microseconds a request':<28} {'read':>8}")
+        for kind, request in KINDS.items():
+            time = time_of(f"reads: {kind}", map(request, range(REQUESTS)))
+            print(f"{kind:<28} {time / MILLION * 1e6:>8.2f}")
+        print(f"{'nanoseconds a byte':<28} {'head':>8} {'body':>8}")
+        for length in LENGTHS:
+            times = [time_of("byte by byte: one length", [text(length)] * REQUESTS) for text in (head_of, body_of)]
+            head, body = (time / REQUESTS / length * 1e9 for time in times)
+            print(f"{length:<28,} {head:>8.2f} {body:>8.2f}")
 
 
 if __name__ == "__main__":

@@ -62,13 +62,15 @@ impl Blocks {
 
     pub(crate) fn accounts(&self) -> u32
         ensures value { result ≡ accounts self.now.parts }
+        ensures few { result ≤ MOST_ACCOUNTS }
         ensures parts { AreParts self.now.parts }
     {
         self.account_count
     }
 
     pub(crate) fn certs(&self) -> u32
-        ensures { result ≡ certs self.now.parts }
+        ensures value { result ≡ certs self.now.parts }
+        ensures few { result ≤ MOST_CERTS }
     {
         self.cert_count
     }
@@ -80,8 +82,16 @@ impl Blocks {
         ensures row { account % 64 < count result.now.part }
         ensures own { 0 < degree_in result.now.part (account % 64) → giver_in result.now.part (account % 64) ≡ account }
         ensures named { slice_get (names self.now.parts) account ≡ slice_get result.now.part.names (account % 64) }
+        ensures parts { AreParts self.now.parts }
     {
         block_of(&self.slots[(account.0 / 64) as usize])
+    }
+
+    pub(crate) fn standing(&self, from: AccountNo, to: AccountNo) -> Level
+        requires { from < accounts self.now.parts }
+        ensures { result ≡ standing self.now.parts from to }
+    {
+        self.block(from).standing(from.0 % 64, to)
     }
 
     /// Makes the block ready that has the account, or that it is to join. It copies the block where that is shared.
@@ -134,6 +144,7 @@ impl Blocks {
         requires new { number_of (names self.old.parts) name ≡ None }
         ensures account { result ≡ accounts self.old.parts }
         ensures joined { IsAfter (Joined name) self.old.parts self.new.parts }
+        ensures parts { AreParts self.old.parts }
         ensures steps { steps.new ≡ steps.old + 1 }
     {
         if ((self.account_count / 64) as usize) < self.slots.len() {
@@ -151,6 +162,7 @@ impl Blocks {
         requires inside { accounts self.old.parts / 64 < length self.old.parts }
         ensures account { result ≡ accounts self.old.parts }
         ensures joined { IsAfter (Joined name) self.old.parts self.new.parts }
+        ensures parts { AreParts self.old.parts }
         ensures steps { steps.new ≡ steps.old + 1 }
     {
         let account = self.account_count;
@@ -168,6 +180,7 @@ impl Blocks {
         requires past { length self.old.parts ≤ accounts self.old.parts / 64 }
         ensures account { result ≡ accounts self.old.parts }
         ensures joined { IsAfter (Joined name) self.old.parts self.new.parts }
+        ensures parts { AreParts self.old.parts }
         ensures steps { steps.new ≡ steps.old + 1 }
     {
         let account = self.account_count;
@@ -182,7 +195,8 @@ impl Blocks {
     pub(crate) fn mark(&mut self, account: AccountNo, seed: bool)
         requires ready { self.old.ready ≡ Some account }
         requires account { account < accounts self.old.parts }
-        ensures { IsAfter (if seed then Seeded account else Unseeded account) self.old.parts self.new.parts }
+        ensures marked { IsAfter (if seed then Seeded account else Unseeded account) self.old.parts self.new.parts }
+        ensures parts { AreParts self.old.parts }
     {
         seed_slot(
             &mut self.slots[(account.0 / 64) as usize],
@@ -208,7 +222,7 @@ impl Blocks {
         ensures put { IsAfter (Certified (record { from = author; to = subject; level = level })) self.old.parts self.new.parts }
         ensures steps { steps.new ≡ steps.old + 1 }
     {
-        let before = self.block(author).standing(author.0 % 64, subject);
+        let before = self.standing(author, subject);
         let cert = Cert {
             from: author,
             to: subject,
@@ -224,6 +238,7 @@ impl Blocks {
         ensures same { self.new ≡ record self.old { ready = None } }
         ensures shared { IfOk result (λ blocks. shared_parts blocks.items ≡ self.old.parts) }
         ensures few { length self.old.parts ≤ parts_for (accounts self.old.parts) }
+        ensures parts { AreParts self.old.parts }
         ensures steps { steps.new ≤ steps.old + length self.old.parts }
     {
         self.ready = None;

@@ -1,8 +1,9 @@
 //! The book of certificates.
 
-ghost use Rattle.std.specs.Prelude.{ℕ, List, ◌≡◌, ◌<◌, ◌≤◌, ◌+◌, ◌*◌, [], Some, None, IfOk, IfSome, IsSome, OnOk, OnErr, length, slice_get};
+ghost use Rattle.std.specs.Prelude.{ℕ, List, ◌≡◌, ◌<◌, ◌≤◌, ◌+◌, ◌*◌, [], Some, None, All, IfOk, IfSome, IsSome, OnOk, OnErr, length, slice_get, slice_index, true};
 ghost use Rattle.trust_types.specs.Changes.{Joined, Seeded, Unseeded, Certified, Tabled};
 ghost use Rattle.trust_types.specs.Kept.{changes};
+ghost use Rattle.trust_types.specs.Names.{IsName};
 ghost use Rattle.trust_types.specs.NameLists.{number_of};
 ghost use Rattle.trust_types.specs.Tables.{Table};
 ghost use Rattle.trust_types.specs.declared.records.Record.{Record};
@@ -11,7 +12,7 @@ ghost use Rattle.name_index.specs.Numbers.{AreNumbersOf};
 ghost use Rattle.cert_book.specs.inner.Keeping.{written, HasRoomBeside};
 ghost use Rattle.cert_book.specs.inner.Takings.{givers_of};
 ghost use Rattle.cert_book.specs.Books.{book, book_of, Adds, IsAccount, given, taken, Follows, HasPlace, Freezes};
-ghost use Rattle.cert_book.specs.Judged.{known, judged_name, judged_seeding, judged_unseeding, judged_certifying, judged_join, judged_seed, judged_unseed, judged_cert, judged_table};
+ghost use Rattle.cert_book.specs.Judged.{known, has_other_seed, judged_name, judged_seeding, judged_unseeding, judged_certifying, judged_join, judged_seed, judged_unseed, judged_cert, judged_table};
 
 use crate::blocks::Blocks;
 use crate::judging::{CertFault, fault_if, fault_unless};
@@ -87,6 +88,7 @@ impl CertBook {
     /// How many accounts there are, up to [`MOST_ACCOUNTS`].
     pub fn accounts(&self) -> u32
         ensures value { result ≡ length (book self.now).names }
+        ensures named { All IsName (book self.now).names }
         ensures few { result ≤ MOST_ACCOUNTS }
     {
         self.blocks.accounts()
@@ -140,7 +142,7 @@ impl CertBook {
         requires { IsAccount (book self.now) from }
         ensures { result ≡ (book self.now).standing from to }
     {
-        self.blocks.block(from).standing(from.0 % 64, to)
+        self.blocks.standing(from, to)
     }
 
     /// How many accounts stand certified by this one.
@@ -165,7 +167,7 @@ impl CertBook {
         requires { IsAccount (book self.now) account }
         ensures { result ≡ length (taken (book self.now) account) }
     {
-        self.takings.of(account).len() as u32
+        self.givers(account).len() as u32
     }
 
     /// The i-th certificate that an account has taken, counted from 0, in rising order of giver. Its level is looked up as by `standing`.
@@ -174,12 +176,26 @@ impl CertBook {
         requires within { i < length (taken (book self.now) account) }
         ensures { slice_get (taken (book self.now) account) i ≡ Some result }
     {
-        let from = self.takings.of(account)[i as usize];
+        let from = self.givers(account)[i as usize];
         Cert {
             from,
             to: account,
             level: self.standing(from, account),
         }
+    }
+
+    /// Who certifies an account, in rising order.
+    fn givers(&self, account: AccountNo) -> &[AccountNo]
+        requires { IsAccount (book self.now) account }
+        ensures count { length result.now ≡ length (taken (book self.now) account) }
+        ensures each { (i : ℕ) → i < length result.now → slice_get (taken (book self.now) account) i ≡
+            Some (record { from = slice_index result.now i; to = account; level = (book self.now).standing (slice_index result.now i) account }) }
+        ensures accounts { (i : ℕ) → i < length result.now → IsAccount (book self.now) (slice_index result.now i) }
+        ensures few { length result.now ≤ MOST_ACCOUNTS }
+    {
+        // The contract of this one tells that the blocks are those of a site.
+        let _accounts = self.blocks.accounts();
+        self.takings.of(account)
     }
 
     /// The account whose name the word is.
@@ -190,6 +206,8 @@ impl CertBook {
         ensures known { result ≡ known (book self.now) word.now }
         ensures account { IfOk result (IsAccount (book self.now)) }
     {
+        // The contract of this one tells that no account has a word that is no name.
+        let _accounts = self.accounts();
         let Some(name) = Name::read(word.as_str().as_bytes()) else {
             return Err(CertFault::NoSuchAccount);
         };
@@ -236,7 +254,16 @@ impl CertBook {
         ensures follows { OnOk result (Follows (book self.now) (Unseeded subject)) }
     {
         fault_unless(self.is_seed(subject), CertFault::NotSeed)?;
-        fault_unless(self.seed_count > 1, CertFault::LastSeed)
+        fault_unless(self.has_other_seed(subject), CertFault::LastSeed)
+    }
+
+    /// Whether some account is a seed beside one that is.
+    fn has_other_seed(&self, seed: AccountNo) -> bool
+        requires account { IsAccount (book self.now) seed }
+        requires seed { (book self.now).is_seed seed ≡ true }
+        ensures { result ≡ has_other_seed (book self.now) seed }
+    {
+        self.seed_count > 1
     }
 
     /// Whether one account may certify another at a level, or at Observer certify it no more. It takes no memory.
@@ -383,6 +410,8 @@ impl CertBook {
         ensures room { self.new.room ≡ None }
         ensures steps { steps.new ≡ steps.old + 1 }
     {
+        // The contract of this one tells that its bytes are a name.
+        let _bytes = name.bytes();
         let account = self.blocks.join(name, steps);
         self.numbers.push(&name, account.0);
         self.takings.push_list();

@@ -1,7 +1,7 @@
 //! Who certifies whom, by account that is certified.
 
-ghost use Rattle.std.specs.Prelude.{ℕ, ◌≡◌, ◌≢◌, ◌<◌, ◌+◌, ◌++◌, ◌∷◌, [], OnOk, length, if◌then◌else◌, ◌==◌};
-ghost use Rattle.cert_book.specs.inner.Takings.{Givers, no_givers, givers_of, room_at, has, Rises};
+ghost use Rattle.std.specs.Prelude.{ℕ, ◌≡◌, ◌≢◌, ◌<◌, ◌≤◌, ◌+◌, ◌++◌, ◌∷◌, [], OnOk, MatchResult, vec_len, vec_capacity, insert, length, true, false, if◌then◌else◌, ◌==◌};
+ghost use Rattle.cert_book.specs.inner.Takings.{givers_of, room_at, has, Rises, IsFound, IsPlace};
 
 use std::alloc::{AllocError, Global};
 use std::marker::Model;
@@ -54,19 +54,52 @@ impl Givers {
         requires { 0 < self.old.room }
         ensures { (a : ℕ) → has self.new.accounts a ≡ (if a == giver then gives else has self.old.accounts a) }
     {
-        match self.accounts.binary_search(&giver) {
+        match self.search(giver) {
             Ok(place) => {
                 if !gives {
-                    self.accounts.remove(place);
+                    self.remove(place, giver);
                 }
             }
             Err(place) => {
                 if gives {
-                    let _inserted = self.accounts.insert(place, giver);
+                    self.insert(place, giver);
                 }
             }
         }
     }
+
+    /// Where the giver stands, or else where it would.
+    fn search(&self, giver: AccountNo) -> Result<usize, usize>
+        ensures { MatchResult result (λ place. IsFound self.now.accounts giver place) (λ place. IsPlace self.now.accounts giver place) }
+    {
+        self.accounts.binary_search(&giver)
+    }
+
+    /// One more, in its place.
+    fn insert(&mut self, place: usize, giver: AccountNo)
+        requires room { 0 < self.old.room }
+        requires place { IsPlace self.old.accounts giver place }
+        ensures { (a : ℕ) → has self.new.accounts a ≡ (if a == giver then true else has self.old.accounts a) }
+    {
+        insert_reserved(&mut self.accounts, place, giver);
+    }
+
+    /// One less.
+    fn remove(&mut self, place: usize, giver: AccountNo)
+        requires { IsFound self.old.accounts giver place }
+        ensures { (a : ℕ) → has self.new.accounts a ≡ (if a == giver then false else has self.old.accounts a) }
+    {
+        self.accounts.remove(place);
+    }
+}
+
+/// Inserts an account where there is room for it.
+fn insert_reserved(accounts: &mut Vec<AccountNo>, place: usize, account: AccountNo)
+    requires room { vec_len accounts.old < vec_capacity accounts.old }
+    requires within { place ≤ vec_len accounts.old }
+    ensures { accounts.new.items ≡ insert accounts.old.items place account }
+{
+    let _ = accounts.insert(place, account);
 }
 
 /// A list of givers for each account. Contracts see the lists, and how many more fit before memory is taken.

@@ -1,4 +1,8 @@
-mod Trees
-mod Sending
-mod Readings
-mod Results
+mod Growing
+mod Closing
+mod Nearest
+mod Using
+mod Pushing
+mod Lasts
+mod Rounds
+mod Counting

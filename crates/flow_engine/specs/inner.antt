@@ -1,2 +1,3 @@
-pub mod Tree
-pub mod Held
+pub mod Reached
+pub mod Ways
+pub mod Passed

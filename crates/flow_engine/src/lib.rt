@@ -1,8 +1,9 @@
-//! A greatest flow of a site at a level, by searches through the residual graph, and a cut of equal value.
+//! A greatest flow of a site at a level, in phases of shortest ways through the residual graph, and a cut of equal value.
 #![tactic(auto)]
 
-mod reading;
-mod searches;
-mod solving;
+mod phases;
+mod reaching;
+mod serving;
 
-pub use solving::Workspace;
+pub use phases::send_all;
+pub use reaching::Search;

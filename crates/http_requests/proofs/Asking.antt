@@ -15,8 +15,8 @@ use Rattle.http_heads.proofs.Staying.{front_of-append, front_of-ended, ended-wit
 use Rattle.http_requests.specs.declared.requests.Request.{Request}
 use Rattle.http_requests.specs.declared.progress.Progress.{Progress}
 use Rattle.http_requests.specs.declared.next.Next.{Next}
-use Rattle.http_requests.specs.declared.next.Next.TheVariants.{Whole, NeedMore, Bad}
-use Rattle.http_requests.specs.Requests.{request_of, with_body, after_head, IsRequestAfter, IsRequest}
+use Rattle.http_requests.specs.declared.next.Next.TheVariants.{Whole, NeedMore, Bad, NoMemory}
+use Rattle.http_requests.specs.Requests.{request_of, with_body, after_head, IsRequestAfter, IsRequest, IsAnswer}
 use Rattle.http_requests.specs.Laws.{IsRefusal}
 use Rattle.http_requests.specs.Progress.{IsProgress}
 
@@ -85,6 +85,13 @@ is-stable bytes more next known asks = by (front_of bytes) refl asks
         let answer : next ≡ after_head x.0 end (drop end (bytes ++ more)) =
         x.2 ∙ sym (after_head-append x.0 end (drop end bytes) more wanted) ∙ ap (after_head x.0 end) (sym same.2) in
         rw front (x.0, head, answer)
+
+-- An answer, which may stand for a whole request, is the answer whatever follows.
+pub answer-stable : (bytes more : List ℕ) (next : Next) → next ≢ NeedMore → IsAnswer bytes next → IsAnswer (bytes ++ more) next
+answer-stable bytes more NoMemory known is = (is.0, is.1, is-stable bytes more (Whole is.0 is.1) (λ z. cc) is.2)
+answer-stable bytes more (Whole request used) known is = is-stable bytes more (Whole request used) known is
+answer-stable bytes more NeedMore known is = absurd (known refl)
+answer-stable bytes more (Bad status) known is = is-stable bytes more (Bad status) known is
 
 -- ---- how many bytes
 

@@ -1,4 +1,4 @@
-ghost use Rattle.std.specs.Prelude.{◌≡◌, ◌<◌, length, IfOk};
+ghost use Rattle.std.specs.Prelude.{ℕ, List, ◌≡◌, ◌≢◌, ◌<◌, ◌++◌, length, IfOk};
 ghost use Rattle.http_requests.specs.Requests.{IsAnswer, path_of, route_of, request_of};
 
 use crate::actions::action_route;
@@ -26,9 +26,11 @@ pub enum Next {
 /// What the front of the bytes asks for. Each call looks at all bytes of the head, also at those that a call before looked at; whoever reads on
 /// keeps a [`Progress`] and calls [`Progress::next`], whose answer is the same.
 ///
-/// It answers [`Next::NeedMore`] only where fewer than 81,920 bytes are there, and [`Next::NoMemory`] only in place of [`Next::Whole`].
+/// An answer other than [`Next::NeedMore`] is the answer whatever follows the bytes. It answers [`Next::NeedMore`] only where fewer than 81,920
+/// bytes are there, and [`Next::NoMemory`] only in place of [`Next::Whole`].
 pub fn next_request(alloc: Global, bytes: &[u8]) -> Next
     ensures answer { IsAnswer bytes.now result }
+    ensures stable { (more : List ℕ) → result ≢ Next.NeedMore → IsAnswer (bytes.now ++ more) result }
     ensures few { result ≡ Next.NeedMore → length bytes.now < 81920 }
 {
     Progress::new().next(alloc, bytes)

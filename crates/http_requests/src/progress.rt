@@ -12,11 +12,11 @@ pub struct Progress {
 }
 
 impl Progress {
-    ghost use Rattle.std.specs.Prelude.{ℕ, List, ◌≡◌, ◌<◌, ◌≤◌, length, take};
+    ghost use Rattle.std.specs.Prelude.{ℕ, List, ◌≡◌, ◌≢◌, ◌<◌, ◌≤◌, ◌++◌, length, take};
     ghost use Rattle.http_heads.specs.Lines.{filled_lines};
     ghost use Rattle.http_heads.specs.HeadEnd.{front_of};
     ghost use Rattle.http_requests.specs.Requests.{IsAnswer};
-    ghost use Rattle.http_requests.specs.Progress.{IsProgress};
+    ghost use Rattle.http_requests.specs.Progress.{IsProgress, IsKnown};
 
     /// Nothing is known. It serves the bytes of any request.
     pub fn new() -> Progress
@@ -31,13 +31,16 @@ impl Progress {
     /// What the front of the bytes asks for, which begin with those of the calls before. Over all calls each byte of the head is looked at once
     /// for the head's end, and a head that has ended is parsed twice at most: then, and when its body is there. Other calls are a comparison.
     ///
-    /// The answers are those of [`next_request`](crate::next_request). After [`Next::Whole`] and [`Next::Bad`] it is done with; the next request
-    /// wants a new one.
+    /// The answers are those of [`next_request`](crate::next_request). Where it answers [`Next::NeedMore`] it has looked at all bytes, or knows
+    /// how many it needs. After [`Next::Whole`] and [`Next::Bad`] it is done with; the next request wants a new one.
     pub fn next(&mut self, alloc: Global, bytes: &[u8]) -> Next
         requires { IsProgress self.old bytes.now }
         ensures progress { IsProgress self.new bytes.now }
         ensures answer { IsAnswer bytes.now result }
+        ensures stable { (more : List ℕ) → result ≢ Next.NeedMore → IsAnswer (bytes.now ++ more) result }
         ensures few { result ≡ Next.NeedMore → length bytes.now < 81920 }
+        ensures further { self.old.scan.seen ≤ self.new.scan.seen }
+        ensures known { result ≡ Next.NeedMore → IsKnown self.new bytes.now }
     {
         self.look(alloc, bytes)
     }
@@ -46,6 +49,8 @@ impl Progress {
         requires { IsProgress self.old bytes.now }
         ensures progress { IsProgress self.new bytes.now }
         ensures answer { IsAnswer bytes.now result }
+        ensures further { self.old.scan.seen ≤ self.new.scan.seen }
+        ensures known { result ≡ Next.NeedMore → IsKnown self.new bytes.now }
     {
         if bytes.len() < self.least {
             return Next::NeedMore;
@@ -65,6 +70,8 @@ impl Progress {
         requires lines { filled_lines (take end bytes.now) ≤ 65 }
         ensures progress { IsProgress self.new bytes.now }
         ensures answer { IsAnswer bytes.now result }
+        ensures scan { self.new.scan ≡ self.old.scan }
+        ensures least { result ≡ Next.NeedMore → length bytes.now < self.new.least }
     {
         let (front, rest) = bytes.split_at(end);
         let Some(head) = Head::read(front) else {

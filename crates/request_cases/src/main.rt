@@ -1,15 +1,35 @@
 //! Shows what bytes ask for. The input has blocks, each ended by an empty line: the first line says what the block shows, and each further
-//! one is what a client sent. In it `\r`, `\n` and `\\` stand for CR, LF and a backslash. With a number behind the backslash, as `\64n`, the
-//! byte stands there so many times, as any other does: `\64x`. The output has the same lines, and under each what the bytes ask for; in a block
-//! that begins with `reads: `, how often they were a request when they were read a thousand times.
+//! one is what a client sent. In it `\r`, `\n`, `\f` and `\\` stand for CR, LF, the byte FF and a backslash. With a number behind the backslash,
+//! as `\64n`, the byte stands there so many times, as any other does: `\64x`. The output has the same lines, and under each what the bytes ask
+//! for. In a block that begins with `byte by byte: ` they come one after another until they are refused or a request, and the output says how
+//! many came; in one that begins with `reads: ` it says how often they were a request when they were read a thousand times.
 #![tactic(auto)]
 
 use anyhow::{Result, bail};
-use http_requests::{Next, Request, Route, next_request};
+use http_requests::{Next, Progress, Request, Route, next_request};
 use std::alloc::Global;
 use std::io::{self, BufRead, BufReader, BufWriter, Write};
 
 const TIMES: u32 = 1_000;
+
+/// What a block shows of the bytes of its lines.
+#[derive(Clone, Copy)]
+enum Shown {
+    AtOnce,
+    ByteByByte,
+    Often,
+}
+
+/// What a block of that first line shows.
+fn shown_of(heading: &str) -> Shown {
+    if heading.starts_with("byte by byte: ") {
+        return Shown::ByteByByte;
+    }
+    if heading.starts_with("reads: ") {
+        return Shown::Often;
+    }
+    Shown::AtOnce
+}
 
 /// What stands before a byte of a line.
 #[derive(Clone, Copy)]
@@ -24,6 +44,7 @@ fn meant(byte: u8) -> u8 {
     match byte {
         b'r' => b'\r',
         b'n' => b'\n',
+        b'f' => 0xff,
         _ => byte,
     }
 }
@@ -92,10 +113,9 @@ fn write_request(
     Ok(())
 }
 
-/// Writes what the bytes of a line ask for.
-fn show(alloc: Global, line: &str, out: &mut impl Write) -> Result<()> {
-    let bytes = bytes_of(alloc, line)?;
-    match next_request(alloc, &bytes) {
+/// Writes what is asked for.
+fn write_next(alloc: Global, next: Next, out: &mut impl Write) -> Result<()> {
+    match next {
         Next::Whole(request, used) => write_request(alloc, &request, used, out),
         Next::NeedMore => Ok(out.write_all(b"    more bytes are needed\n")?),
         Next::Bad(status) => {
@@ -105,12 +125,39 @@ fn show(alloc: Global, line: &str, out: &mut impl Write) -> Result<()> {
     }
 }
 
-/// Writes how often the bytes of a line are a request when they are read a thousand times.
-fn show_often(alloc: Global, line: &str, out: &mut impl Write) -> Result<()> {
+/// What bytes ask for that come one after another, and how many of them came until they did.
+fn next_of_each(alloc: Global, bytes: &[u8]) -> Result<(usize, Next)> {
+    let mut progress = Progress::new();
+    let mut came = Vec::new(alloc);
+    for byte in bytes {
+        came.push(*byte)?;
+        let next = progress.next(alloc, &came);
+        if !matches!(next, Next::NeedMore) {
+            return Ok((came.len(), next));
+        }
+    }
+    Ok((came.len(), Next::NeedMore))
+}
+
+/// Writes what the bytes of a line ask for, as the block has it.
+fn show(alloc: Global, shown: Shown, line: &str, out: &mut impl Write) -> Result<()> {
     let bytes = bytes_of(alloc, line)?;
+    match shown {
+        Shown::AtOnce => write_next(alloc, next_request(alloc, &bytes), out),
+        Shown::ByteByByte => {
+            let (many, next) = next_of_each(alloc, &bytes)?;
+            out.write_all(format!(in alloc; "    at byte {many}\n")?.as_bytes())?;
+            write_next(alloc, next, out)
+        }
+        Shown::Often => show_often(alloc, &bytes, out),
+    }
+}
+
+/// Writes how often the bytes are a request when they are read a thousand times.
+fn show_often(alloc: Global, bytes: &[u8], out: &mut impl Write) -> Result<()> {
     let mut requests: u64 = 0;
     for _ in 0..TIMES {
-        let is_whole = matches!(next_request(alloc, &bytes), Next::Whole(_, _));
+        let is_whole = matches!(next_request(alloc, bytes), Next::Whole(_, _));
         requests = requests.saturating_add(is_whole as u64);
     }
     out.write_all(format!(in alloc; "    {requests}\n")?.as_bytes())?;
@@ -121,17 +168,15 @@ fn main(rt: HostRuntime) -> Result<()> {
     let alloc = rt.alloc();
     let mut out = BufWriter::new(alloc, io::writer(&rt))?;
     let mut is_heading = true;
-    let mut is_often = false;
+    let mut shown = Shown::AtOnce;
     for line in BufReader::new(alloc, rt.reader())?.lines(alloc) {
         let line = line?;
         out.write_all(line.as_bytes())?;
         out.write_all(b"\n")?;
         if is_heading {
-            is_often = line.starts_with("reads: ");
-        } else if is_often && !line.is_empty() {
-            show_often(alloc, line.as_str(), &mut out)?;
+            shown = shown_of(line.as_str());
         } else if !line.is_empty() {
-            show(alloc, line.as_str(), &mut out)?;
+            show(alloc, shown, line.as_str(), &mut out)?;
         }
         is_heading = line.is_empty();
     }

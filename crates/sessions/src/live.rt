@@ -1,4 +1,4 @@
-ghost use Rattle.std.specs.Prelude.{◌≡◌, ◌++◌, ◌∷◌, ◌<◌, ◌≤◌, ◌+◌, [], None, OnOk, length};
+ghost use Rattle.std.specs.Prelude.{ℕ, List, ◌≡◌, ◌≢◌, ◌++◌, ◌∷◌, ◌<◌, ◌≤◌, ◌+◌, [], None, OnOk, length};
 ghost use Rattle.sessions.specs.Sessions.{who, without, judged_login};
 
 use crate::secrets::is_proof;
@@ -103,10 +103,12 @@ impl Sessions {
         let _inserted = self.accounts.insert(token, account);
     }
 
-    /// Ends the session of the token, and no other; where it isn't live nothing happens. The others stay in the order of their logins, so it may
-    /// move all of those after it.
+    /// Ends the session of the token, and no other; where it isn't live nothing happens. The token is no live session's afterwards, and each other
+    /// token stays as it was. The others stay in the order of their logins, so it may move all of those after it.
     pub fn logout(&mut self, token: &Token)
         ensures live { self.new.live ≡ without self.old.live token.now }
+        ensures gone { who self.new.live token.now ≡ None }
+        ensures others { (other : List ℕ) → other ≢ token.now → who self.new.live other ≡ who self.old.live other }
         ensures room { self.old.room ≤ self.new.room }
     {
         let _account = self.accounts.shift_remove(token);

@@ -90,8 +90,9 @@ fn add_lines_from(
     if !workspace.served(giver) {
         return Ok(());
     }
+    let takers = frozen.takers(giver);
     for i in 0..frozen.degree(giver) {
-        let to = frozen.given(giver, i).to;
+        let to = takers[i as usize];
         add_line(lines, Node::Account(giver), to, workspace.units(giver, i))?;
     }
     Ok(())

@@ -65,6 +65,7 @@ are_arcs b =
       twin_long = b.placed.twin_long;
       rest_long = omega (arith, b.enough, places-all nodes b.arcs first b.are b.laid, length-replicate {A = ℕ} (length b.t.rest) 0);
       first_within = λ u le. first_more nodes b.arcs first b.laid u nodes le (omega arith);
+      rising = λ u below. omega (arith, b.laid.goes_on u below);
       head_within = λ e below. (arc_of_place b e below).4.within;
       twin_within = λ e below.
           let v = arc_of_place b e below in

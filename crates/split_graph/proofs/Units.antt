@@ -172,6 +172,7 @@ other_rests a rests are long room = record {
   twin_long = are.twin_long;
   rest_long = long;
   first_within = are.first_within;
+  rising = are.rising;
   head_within = are.head_within;
   twin_within = are.twin_within;
   twin_back = are.twin_back;

@@ -15,7 +15,7 @@ ghost use Rattle.split_graph.specs.Network.{Fits, IsLaidFor, StandsFor, rows_of,
 
 use crate::arc_table::ArcTable;
 use crate::split_arcs::{SplitArc, list_arcs};
-use crate::split_nodes::{in_half, is_along_edge, out_half};
+use crate::split_nodes::{entered_account, in_half, is_along_edge, out_half};
 use frozen::Frozen;
 use std::alloc::Global;
 use std::marker::Model;
@@ -164,10 +164,17 @@ impl Residual {
         requires arc { arc < arc_count self.now.arcs }
         ensures { (u v : SplitNode) → LeadsTo self.now.arcs u v arc → result ≡ units_on (between self.now.arcs) u v }
     {
+        let head = self.table.head(arc);
+        let Some(_account) = entered_account(head) else {
+            return 0;
+        };
         let twin = self.table.twin(arc);
-        let tail = self.table.head(twin);
-        if is_along_edge(tail, self.table.head(arc)) {
-            return self.table.rest(twin);
+        let units = self.table.rest(twin);
+        if units == 0 {
+            return 0;
+        }
+        if is_along_edge(self.table.head(twin), head) {
+            return units;
         }
         0
     }
@@ -184,26 +191,6 @@ impl Residual {
             steps.tick();
             units[arc as usize] = self.units_on(arc);
         }
-    }
-
-    /// The split node that an arc enters.
-    pub fn head(&self, arc: u32) -> u32
-        requires stands { StandsFor self.now }
-        requires arc { arc < arc_count self.now.arcs }
-        ensures { result ≡ head_of self.now.arcs arc }
-    {
-        self.table.head(arc)
-    }
-
-    /// The units that may still be moved along an arc, which is what may be moved between its ends. One without a bound counts
-    /// as one of capacity 4,294,967,295.
-    pub fn rest(&self, arc: u32) -> u32
-        requires stands { StandsFor self.now }
-        requires arc { arc < arc_count self.now.arcs }
-        ensures value { result ≡ rest_of self.now.arcs arc }
-        ensures between { (u v : SplitNode) → LeadsTo self.now.arcs u v arc → result ≡ between self.now.arcs u v }
-    {
-        self.table.rest(arc)
     }
 
     /// The arc of the i-th certificate that an account gives, or for the root that of the i-th seed, counted from 0. Nothing

@@ -1,5 +1,5 @@
 -- Who certifies whom, by account that is certified. The crate's own functions alone speak of it.
-use Rattle.std.specs.Prelude.{ℕ, Bool, ◌≡◌, ◌<◌, ◌==◌, List, [], length, slice_index, slice_index_or}
+use Rattle.std.specs.Prelude.{ℕ, Bool, ◌≡◌, ◌<◌, ◌≤◌, ◌==◌, List, [], length, slice_index, slice_index_or}
 use Rattle.std.specs.List.{list_any}
 
 -- Accounts in rising order, and how many more fit before memory is taken.
@@ -28,3 +28,13 @@ Rises xs = (i j : ℕ) → i < j → j < length xs → slice_index xs i < slice_
 
 abbrev pub has : List ℕ → ℕ → Bool
 has xs a = list_any (λ x. x == a) xs
+
+-- Where an account stands among them, or where it would.
+pub record IsFound (xs : List ℕ) (a place : ℕ) : Type 0 where
+  pub within : place < length xs
+  pub here : slice_index xs place ≡ a
+
+pub record IsPlace (xs : List ℕ) (a place : ℕ) : Type 0 where
+  pub within : place ≤ length xs
+  pub before : (k : ℕ) → k < place → slice_index xs k < a
+  pub behind : (k : ℕ) → place ≤ k → k < length xs → a < slice_index xs k

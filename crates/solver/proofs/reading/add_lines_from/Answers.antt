@@ -1,5 +1,5 @@
-use Rattle.std.proofs.Common.{ℕ, ◌≡◌, false, refl, sym, ap, ◌∙◌, arith}
-use Rattle.trust_types.specs.declared.graphs.Cert.{Cert}
+use Rattle.std.proofs.Common.{ℕ, ◌≡◌, ◌<◌, length, false, refl, sym, ap, ◌∙◌, arith}
+use Rattle.std.proofs.lemmas.List.{get_or_default}
 use Rattle.trust_types.specs.declared.accounts.Node.TheVariants.{Account}
 use Rattle.trust_types.specs.Flow.{Flow, is_served}
 use Rattle.frozen.specs.Sites.{Parts, accounts, taker}
@@ -16,9 +16,10 @@ loop-i-preserved c =
     let r : Parts = c.args.frozen.now.parts in
     let a : ℕ = c.args.giver in
     let i : ℕ = c.loop-i.i in
+    let inside : i < length c.takers-takers.result.now = omega (arith, c.takers-takers.ensures.count) in
     rw c.in_ok-add_line.ensures
-    (row_more r f a i c.loop-i.lines.items (record { from = Account a; to = c.given-to.result.to; units = c.units.result }) c.requires.readers c.requires.giver (omega arith)
-    c.loop-i.invariant refl (ap (λ (d : Cert). d.to) c.given-to.ensures)
+    (row_more r f a i c.loop-i.lines.items (record { from = Account a; to = c.index-takers-i.result; units = c.units.result }) c.requires.readers c.requires.giver (omega arith)
+    c.loop-i.invariant refl (c.index-takers-i.is ∙ get_or_default _ i _ 0 inside ∙ c.takers-takers.ensures.each i (omega arith))
     (c.units.ensures ∙ ap (λ (r : Parts). f (Account a) (taker r a i)) c.requires.rows))
 
 pub returns-then-not-served : goal.returns-then-not-served
