@@ -1,5 +1,5 @@
 -- The one reply that a history gives to an act: the first refusal that applies, else that it is accepted.
-use Rattle.std.specs.Prelude.{ℕ, Bool, true, ◌==◌, ◌+◌, List, Option, Some, None, Result, Ok, Err, length, filter, filter_map, is_some, slice_index_or, if◌then◌else◌}
+use Rattle.std.specs.Prelude.{ℕ, Bool, true, ◌==◌, ◌+◌, List, Option, Some, None, Result, Ok, Err, length, if◌then◌else◌}
 use Rattle.trust_types.specs.declared.levels.Level.{Level}
 use Rattle.trust_types.specs.NameLists.{number_of}
 use Rattle.cert_book.specs.declared.judging.CertFault.{CertFault}

@@ -1,5 +1,5 @@
 -- An act judged by its author and its command.
-use Rattle.std.proofs.Common.{◌≡◌, ℕ, Bool, true, false, List, Option, Some, None, Result, Ok, Err, IsTrue, is_some, if◌then◌else◌, unwrap_or, ◌==◌, rules, refl, sym, ap, ◌∙◌, subst}
+use Rattle.std.proofs.Common.{◌≡◌, ℕ, Bool, true, false, Option, Some, None, Result, Ok, Err, IsTrue, is_some, if◌then◌else◌, unwrap_or, ◌==◌, rules, refl, sym, ap, ◌∙◌, subst}
 use Rattle.trust_types.specs.Kept.{accounts}
 use Rattle.trust_types.specs.NameLists.{number_of}
 use Rattle.site_history.specs.declared.acts.Act.{Act}
@@ -12,7 +12,6 @@ use Rattle.site_history.specs.declared.replies.Reply.TheVariants.{NoSession}
 use Rattle.site_history.specs.Acts.{may_have, has_author}
 use Rattle.site_history.specs.Histories.{History, records, author_of, record_of}
 use Rattle.site_history.specs.Held.{level_of}
-use Rattle.site_history.specs.Answers.{is_refusal}
 use Rattle.site_history.specs.Replies.{judge, judged_author, named_account, same_account, reply_by, number_in}
 use Rattle.site_history.specs.Sites.{Site, site_of}
 use Rattle.sessions.specs.Sessions.{who}

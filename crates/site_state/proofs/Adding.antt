@@ -1,5 +1,5 @@
 -- The parts of a site with one record more.
-use Rattle.std.proofs.Common.{◌≡◌, ℕ, Bool, true, false, cond, List, [], ◌∷◌, ◌++◌, Option, Some, None, is_some, option_to_list, refl, sym, ap, ◌∙◌, filter, filter_map}
+use Rattle.std.proofs.Common.{◌≡◌, Bool, true, false, cond, List, [], ◌∷◌, ◌++◌, Option, Some, None, option_to_list, refl, sym, ap, ◌∙◌, filter}
 use Rattle.std.proofs.lemmas.List.{append-nil}
 use Rattle.std.proofs.lemmas.List.Elements.{filter_map-append, filter-append}
 use Rattle.std.specs.List.{cons_option}
@@ -8,7 +8,7 @@ use Rattle.trust_types.specs.declared.records.Secret.{Secret}
 use Rattle.trust_types.specs.Changes.{Change}
 use Rattle.trust_types.specs.Kept.{change_of, changes}
 use Rattle.trust_types.specs.Tables.{Table}
-use Rattle.cert_book.specs.Books.{Book, book_of, Adds}
+use Rattle.cert_book.specs.Books.{Book, book_of}
 use Rattle.site_history.specs.Histories.{changes_graph, graph_records}
 use Rattle.sessions.specs.Sessions.{Session}
 use Rattle.trust_types.specs.declared.records.Record.TheVariants.{Join, Seed, Unseed, Cert, Table as OfTable, Diary, Article, Reply, Project}

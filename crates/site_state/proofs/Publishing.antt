@@ -1,5 +1,5 @@
 -- A state with a publication more.
-use Rattle.std.proofs.Common.{◌≡◌, ◌↔◌, ℕ, ◌+◌, ◌<◌, ◌≤◌, List, [], ◌∷◌, length, Option, Some, None, IsSome, IfSome, IsTrue, option_map, refl, sym, ap, ◌∙◌, subst, arith, length-append}
+use Rattle.std.proofs.Common.{◌≡◌, ◌↔◌, ℕ, ◌+◌, ◌<◌, ◌≤◌, List, [], ◌∷◌, length, Option, Some, None, IsSome, IfSome, IsTrue, option_map, refl, rules, sym, ap, subst, arith, length-append}
 use Rattle.std.specs.declared.sync.Arc.{Arc}
 use Rattle.trust_types.specs.declared.levels.Level.{Level}
 use Rattle.trust_types.specs.declared.levels.Level.TheVariants.{Observer, Apprentice, Journeyer, Master, Fellow, Warden, Elder}
@@ -14,7 +14,6 @@ use Rattle.roster_form.specs.Candidates.{Rosters, IsSound, lists_at}
 use Rattle.roster_form.specs.declared.publications.Publication.{Publication}
 use Rattle.site_history.specs.Histories.{Entry, Publish, History, Published, with_entry, places, records, publications, last_revision, published_of}
 use Rattle.site_history.specs.Held.{served_at}
-use Rattle.site_history.specs.Live.{live}
 use Rattle.site_history.specs.Legal.{AreRostersOf, IsPublicationOf, IsFrozenOf, IsNewer, Suits, MayPublish}
 use Rattle.site_history.proofs.Growing.{records-same, publications-more, last-more, texts-add, places-add}
 use Rattle.site_history.proofs.Legality.{legal_add}
@@ -35,7 +34,7 @@ each_level P o a j m f w e Elder = e
 
 some-mapped : {A B : Type 0} (f : A → B) (o : Option A) → IsSome (option_map f o) ↔ IsSome o
 some-mapped f None = (λ h. h, λ h. h)
-some-mapped f (Some x) = (λ h. tt, λ h. tt)
+some-mapped f (Some x) = (λ h. search rules, λ h. search rules)
 
 through : {A B C : Type 0} → A ↔ B → B ↔ C → A ↔ C
 through p q = (λ a. q.0 (p.0 a), λ c. p.1 (q.1 c))

@@ -1,5 +1,5 @@
 -- The state of a site with one entry more.
-use Rattle.std.proofs.Common.{◌≡◌, ℕ, ◌+◌, ◌<◌, ◌≤◌, Bool, true, false, cond, List, [], ◌∷◌, ◌++◌, length, Option, Some, None, option_to_list, refl, sym, ap, ◌∙◌, subst, suc, arith, length-append, is_some}
+use Rattle.std.proofs.Common.{◌≡◌, ◌≢◌, ℕ, ◌+◌, ◌<◌, ◌≤◌, Bool, true, false, cond, List, [], ◌∷◌, ◌++◌, length, Option, Some, None, option_to_list, refl, sym, ap, ◌∙◌, subst, suc, arith, length-append, is_some}
 use Rattle.std.proofs.lemmas.List.Elements.{filter_map-append}
 use Rattle.std.specs.List.{last_or, cons_option}
 use Rattle.std.specs.declared.sync.Arc.{Arc}
@@ -16,13 +16,13 @@ use Rattle.site_history.specs.declared.replies.Reply.{Reply}
 use Rattle.site_history.specs.declared.replies.Reply.TheVariants.{Joined, Revised, Posted, LoggedIn, LoggedOut}
 use Rattle.site_history.specs.Answers.{is_refusal}
 use Rattle.site_history.specs.Replies.{judge}
-use Rattle.site_history.specs.Histories.{Entry, Done, Freeze, Publish, KeeperFault, last_revision, graph_records, is_kept, record_of, author_of, History, Published, with_entry, places, records, record_added, publications, published_by, last_published}
+use Rattle.site_history.specs.Histories.{just_opened, Entry, Done, Freeze, KeeperFault, last_revision, graph_records, is_kept, record_of, author_of, History, with_entry, places, records, record_added, publications, published_by}
 use Rattle.site_history.specs.Live.{live, live_after, live_by, with_login, without_author}
-use Rattle.site_history.specs.Sites.{Site, is_post, posts_of}
+use Rattle.site_history.specs.Sites.{Site, is_post}
 use Rattle.site_history.specs.Texts.{texts, texts_in, texts_in_entry}
-use Rattle.site_history.specs.Legal.{IsLegal, Meets, IsFrozenOf}
+use Rattle.site_history.specs.Legal.{Meets, IsFrozenOf}
 use Rattle.site_history.proofs.Growing.{records-add, records-same, records-more, publications-same, live-add, texts-add, places-add, few-changes, few-records}
-use Rattle.site_history.proofs.Legality.{legal_add}
+use Rattle.site_history.proofs.Legality.{legal_add, legal_opened, well_none}
 use Rattle.site_history.proofs.Revisions.{frozen_later}
 use Rattle.site_state.specs.declared.parts.Parts.{Parts}
 use Rattle.trust_types.specs.Tables.{Table}
@@ -34,10 +34,6 @@ use Rattle.site_history.specs.declared.commands.Command.TheVariants.{Join, Seed,
 use Rattle.site_state.specs.Weighed.{token_of, author_token}
 use Rattle.site_state.specs.inner.Parts.{ArePartsOf, AreFew, IsSameBut, site_in}
 use Rattle.site_state.specs.inner.States.{IsState, LastIs}
-
-
-
-
 
 -- a state has fewer changes and posts than their numbers can count
 pub state_few : {Z : Type 0} (h : History) (parts : Parts) (n t p : ℕ) (last : Option (Arc Publication Z)) → IsState h parts n t p last → AreFew parts
@@ -213,3 +209,16 @@ state_frozen h parts parts' n t p caller r last is at newer room are =
     let e : Entry = Freeze caller r in
     state_add h parts parts' n t t p last e is (at, λ same. newer (same ∙ ap Some at)) room (omega (arith, is.legal.few_texts)) refl (omega arith)
     (parts_stay h e parts' refl refl are)
+
+-- the state of a site to which nothing happened yet
+pub state_begun : {Z : Type 0} (opening : Table) (parts : Parts) → ArePartsOf opening [] [] parts → IsState {Z = Z} (just_opened opening []) parts 0 0 0 None
+unfolding records live texts publications
+state_begun opening parts are = record {
+  legal = legal_opened opening [] (well_none opening) (omega arith) (omega arith);
+  parts_are = are;
+  count_is = refl;
+  bytes_are = refl;
+  published_are = refl;
+  few = omega arith;
+  last_is = refl;
+}

@@ -1,5 +1,5 @@
 -- What becomes of a command, as it was judged.
-use Rattle.std.specs.Prelude.{ℕ, Bool, true, ◌≡◌, List, Option, Some, None, Result, Ok, is_some}
+use Rattle.std.specs.Prelude.{ℕ, Bool, true, ◌≡◌, List, Option, Some, None, Ok, is_some}
 use Rattle.trust_types.specs.declared.levels.Level.{Level}
 use Rattle.trust_types.specs.declared.records.Record.{Record}
 use Rattle.posting_policy.specs.declared.PostKind.{PostKind}
@@ -9,7 +9,6 @@ use Rattle.site_history.specs.declared.commands.Author.{Author}
 use Rattle.site_history.specs.declared.commands.Author.TheVariants.{Named, Session}
 use Rattle.site_history.specs.declared.commands.Command.{Command}
 use Rattle.site_history.specs.declared.commands.Command.TheVariants.{Join, Seed, Unseed, Cert, Table, Diary, Article, Reply, Project, Login, Logout}
-use Rattle.site_history.specs.declared.replies.Reply as replies
 use Rattle.site_history.specs.declared.replies.Reply.TheVariants.{LoggedIn, LoggedOut}
 use Rattle.site_history.specs.Answers.{is_refusal}
 use Rattle.trust_types.specs.Kept.{accounts}

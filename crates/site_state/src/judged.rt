@@ -1,5 +1,5 @@
-use site_history::Reply;
 use sessions::Token;
+use site_history::Reply;
 use trust_types::{AccountNo, Record};
 
 /// What becomes of an act.

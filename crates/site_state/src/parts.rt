@@ -62,13 +62,17 @@ impl Parts {
                 self.reserve_change(None, Some(*subject), steps)
             }
             Record::Cert {
-                author, subject, ..
+                author,
+                subject,
+                ..
             } => self.reserve_change(Some(*author), Some(*subject), steps),
             Record::Table { .. } => self.reserve_change(None, None, steps),
             Record::Diary { author, .. } => self.posts.reserve(PostKind::Diary, *author, 0),
             Record::Article { author, .. } => self.posts.reserve(PostKind::Article, *author, 0),
             Record::Reply {
-                author, article, ..
+                author,
+                article,
+                ..
             } => self.posts.reserve(PostKind::Reply, *author, *article),
             Record::Project { author, .. } => self.posts.reserve(PostKind::Project, *author, 0),
         }

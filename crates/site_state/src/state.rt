@@ -205,14 +205,7 @@ impl State {
     }
 
     /// Adds the entry of an act that was refused. It takes no memory and cannot fail.
-    pub fn refuse(
-        &mut self,
-        caller: u64,
-        act: Snapshot<Act>,
-        reply: Reply,
-        moment: u64,
-        bytes: u64,
-    )
+    pub fn refuse(&mut self, caller: u64, act: Snapshot<Act>, reply: Reply, moment: u64, bytes: u64)
         requires reply { reply ≡ judge self.old.history act.value }
         requires refusal { is_refusal reply ≡ true }
         requires moment { IsMoment moment }

@@ -1,5 +1,5 @@
 -- For the state of a site alone: what its parts say of its records, and what a record needs to be added.
-use Rattle.std.specs.Prelude.{ℕ, ◌≡◌, ◌<◌, ◌^◌, List, Option, Some, None, length, vec_len, vec_capacity}
+use Rattle.std.specs.Prelude.{ℕ, ◌≡◌, ◌<◌, List, Option, Some, None, length, vec_len, vec_capacity}
 use Rattle.trust_types.specs.declared.records.Record.{Record}
 use Rattle.trust_types.specs.declared.records.Record.TheVariants.{Join, Seed, Unseed, Cert, Table, Diary, Article, Reply, Project}
 use Rattle.trust_types.specs.Changes.{Change}
@@ -30,7 +30,6 @@ MayChange b (Some change) = Follows b change × HasPlace b change
 pub record CanAdd (b : Book) (k : List Record) (x : Record) : Type 0 where
   pub change : MayChange b (change_of x)
   pub post : posts.Follows k x
-
 
 -- The certificates have room for an addition that touches these accounts, and so has the list of records.
 pub record HasChangeRoom (p : Parts) (author subject : Option ℕ) : Type 0 where

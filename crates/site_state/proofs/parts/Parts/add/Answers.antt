@@ -1,7 +1,6 @@
 use Rattle.std.proofs.Common.{◌≡◌, ◌++◌, ◌∷◌, [], List, true, false, sym, ap, ◌∙◌}
 use Rattle.trust_types.specs.declared.records.Record.{Record}
-use Rattle.postings.specs.Posts.{Posts}
-use Rattle.site_history.specs.Histories.{changes_graph, graph_records}
+use Rattle.site_history.specs.Histories.{changes_graph}
 use Rattle.site_state.proofs.Adding.{site_changed, site_posted, graph_more, graph_same}
 use Rattle.site_state.proofs.parts.Parts.add.Goals as goal
 

@@ -1,4 +1,4 @@
-use Rattle.std.proofs.Common.{ℕ, Option, Some, sym, subst}
+use Rattle.std.proofs.Common.{ℕ, Option, sym, subst}
 use Rattle.site_history.specs.declared.commands.Command.{Command}
 use Rattle.site_state.specs.inner.Parts.{site_in}
 use Rattle.site_state.specs.Weighed.{IsWeighed}

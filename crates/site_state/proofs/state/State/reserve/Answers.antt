@@ -1,10 +1,8 @@
-use Rattle.std.proofs.Common.{sym, ap, ◌∙◌, subst}
-use Rattle.cert_book.specs.Books.{book}
-use Rattle.site_history.specs.Histories.{History, records}
+use Rattle.std.proofs.Common.{sym, subst}
+use Rattle.site_history.specs.Histories.{records}
 use Rattle.site_history.specs.Live.{live}
 use Rattle.site_history.specs.Sites.{Site}
-use Rattle.site_state.specs.inner.Parts.{CanAdd, HasRoom}
-use Rattle.site_state.specs.inner.States.{IsState, HasRoomFor}
+use Rattle.site_state.specs.inner.Parts.{CanAdd}
 use Rattle.site_state.proofs.Stating.{state_parts}
 use Rattle.site_state.proofs.state.State.reserve.Goals as goal
 

@@ -1,6 +1,6 @@
-use Rattle.std.proofs.Common.{sym, ap, ◌∙◌, subst}
+use Rattle.std.proofs.Common.{ap, ◌∙◌}
 use Rattle.site_history.specs.Sites.{Site, site_of}
-use Rattle.site_history.specs.Replies.{judge, judged_author}
+use Rattle.site_history.specs.Replies.{judged_author}
 use Rattle.site_state.specs.States.{Known}
 use Rattle.site_state.proofs.ActsJudged.{judge-refused, act_judged}
 use Rattle.site_state.proofs.state.State.weigh.Goals as goal
