@@ -2,7 +2,7 @@
 
 ghost use Rattle.std.specs.Prelude.{◌≡◌, ◌<◌, ◌++◌, ◌∷◌, [], Some, None, IsSome, OnOk, length, slice_get, slice_index, find, option_copied};
 ghost use Rattle.posting_policy.specs.declared.PostKind.TheVariants.{Reply as OfReply};
-ghost use Rattle.postings.specs.Posts.{diary_of, articles, replies_to, is_project_named, room_of, room_for, number_after, Follows};
+ghost use Rattle.postings.specs.Posts.{diary_of, articles, replies_to, projects, is_project_named, room_of, room_for, number_after, Follows};
 ghost use Rattle.postings.specs.Judged.{article_there, name_free, judged_diary, judged_article, judged_reply, judged_project};
 
 use crate::judging::{PostFault, fits};
@@ -211,6 +211,13 @@ impl Postings {
         ensures { Some result.now ≡ slice_get (replies_to self.now.posts n) i }
     {
         post_at(&self.posts, self.places.replies.at(n), i)
+    }
+
+    /// How many projects there are.
+    pub fn project_count(&self) -> u32
+        ensures { result ≡ length (projects self.now.posts) }
+    {
+        self.places.projects.places().len() as u32
     }
 
     /// The project of that name; `None` where no project has it. It looks the name up as [`NameNumbers`](name_index::NameNumbers) does.

@@ -56,27 +56,27 @@ with_entry h e = record h { entries = h.entries ++ e ∷ [] }
 abbrev pub places : History → ℕ
 places h = length h.opened + length h.entries
 
--- The number of the account of that name. Nothing is asked of it where there is none.
-abbrev pub account_of : List Record → List ℕ → ℕ
-account_of k name = unwrap_or (number_of (accounts k) name) 0
+-- The number of the account of that name, among the accounts' names. Nothing is asked of it where there is none.
+abbrev pub account_of : List (List ℕ) → List ℕ → ℕ
+account_of names name = unwrap_or (number_of names name) 0
 
-abbrev pub author_of : List Record → Option Author → ℕ
-author_of k None = 0
-author_of k (Some author) = account_of k (author_name author)
+abbrev pub author_of : List (List ℕ) → Option Author → ℕ
+author_of names None = 0
+author_of names (Some author) = account_of names (author_name author)
 
--- The record of a command that an account gives at a moment. A login and a logout leave none.
-abbrev pub record_of : List Record → ℕ → ℕ → Command → Option Record
-record_of k author moment (Join name secret) = Some (kept.Join moment name secret)
-record_of k author moment (Seed subject) = Some (kept.Seed moment (account_of k subject))
-record_of k author moment (Unseed subject) = Some (kept.Unseed moment (account_of k subject))
-record_of k author moment (Cert subject level) = Some (kept.Cert moment author (account_of k subject) level)
-record_of k author moment (Table caps) = Some (kept.Table moment caps)
-record_of k author moment (Diary text) = Some (kept.Diary moment author text)
-record_of k author moment (Article title text) = Some (kept.Article moment author title text)
-record_of k author moment (Reply article text) = Some (kept.Reply moment author article text)
-record_of k author moment (Project name text) = Some (kept.Project moment author name text)
-record_of k author moment (Login name proof token) = None
-record_of k author moment Logout = None
+-- The record of a command that an account gives at a moment, among accounts of these names. A login and a logout leave none.
+abbrev pub record_of : List (List ℕ) → ℕ → ℕ → Command → Option Record
+record_of names author moment (Join name secret) = Some (kept.Join moment name secret)
+record_of names author moment (Seed subject) = Some (kept.Seed moment (account_of names subject))
+record_of names author moment (Unseed subject) = Some (kept.Unseed moment (account_of names subject))
+record_of names author moment (Cert subject level) = Some (kept.Cert moment author (account_of names subject) level)
+record_of names author moment (Table caps) = Some (kept.Table moment caps)
+record_of names author moment (Diary text) = Some (kept.Diary moment author text)
+record_of names author moment (Article title text) = Some (kept.Article moment author title text)
+record_of names author moment (Reply article text) = Some (kept.Reply moment author article text)
+record_of names author moment (Project name text) = Some (kept.Project moment author name text)
+record_of names author moment (Login name proof token) = None
+record_of names author moment Logout = None
 
 -- Whether a reply says that a record was added.
 abbrev pub is_kept : replies.Reply → Bool
@@ -87,7 +87,7 @@ is_kept _ = false
 
 -- The record that an entry adds to those before.
 abbrev pub record_added : List Record → Entry → Option Record
-record_added k (Done caller act reply moment) = if is_kept reply then record_of k (author_of k act.author) moment act.command else None
+record_added k (Done caller act reply moment) = if is_kept reply then record_of (accounts k) (author_of (accounts k) act.author) moment act.command else None
 record_added k (Freeze caller revision) = None
 record_added k (Publish caller p) = None
 record_added k (KeeperFault caller) = None

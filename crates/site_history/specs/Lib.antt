@@ -1,9 +1,11 @@
 pub mod Acts
 pub mod Histories
 pub mod Live
+pub mod Sites
 pub mod Texts
 pub mod Held
 pub mod Replies
 pub mod Legal
 pub mod Views
+pub mod Answers
 pub mod inner

@@ -14,7 +14,7 @@ use Rattle.site_history.specs.declared.queries.Query.{Query}
 use Rattle.site_history.specs.declared.queries.Query.TheVariants as asked
 use Rattle.site_history.specs.Histories.{History, records}
 use Rattle.site_history.specs.Held.{level_of}
-use Rattle.site_history.specs.Replies.{posts_of}
+use Rattle.site_history.specs.Sites.{posts_of}
 
 -- An article without its text, and a post.
 pub record Head : Type 0 where
