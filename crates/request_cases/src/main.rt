@@ -151,12 +151,15 @@ fn show(alloc: Global, shown: Shown, line: &str, out: &mut impl Write) -> Result
             out.write_all(format!(in alloc; "    at byte {many}\n")?.as_bytes())?;
             write_next(alloc, next, out)
         }
-        Shown::Often => show_often(alloc, &bytes, out),
+        Shown::Often => {
+            let requests = times_whole(alloc, &bytes);
+            Ok(out.write_all(format!(in alloc; "    {requests}\n")?.as_bytes())?)
+        }
     }
 }
 
-/// Writes how often the bytes are a request when they are read a thousand times.
-fn show_often(alloc: Global, bytes: &[u8], out: &mut impl Write) -> Result<()> {
+/// How often the bytes are a request when they are read a thousand times.
+fn times_whole(alloc: Global, bytes: &[u8]) -> u64 {
     let mut requests: u64 = 0;
     let mut progress = Progress::new();
     for _ in 0..TIMES {
@@ -164,8 +167,7 @@ fn show_often(alloc: Global, bytes: &[u8], out: &mut impl Write) -> Result<()> {
         progress.restart();
         requests = requests.saturating_add(is_whole as u64);
     }
-    out.write_all(format!(in alloc; "    {requests}\n")?.as_bytes())?;
-    Ok(())
+    requests
 }
 
 fn main(rt: HostRuntime) -> Result<()> {
