@@ -2,3 +2,4 @@ mod Listing
 mod Writing
 mod Proving
 mod Among
+mod Answering
