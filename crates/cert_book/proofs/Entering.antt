@@ -1,9 +1,8 @@
 -- One certificate is entered into the book.
-use Rattle.std.proofs.Common.{ℕ, ◌==◌, ◌&&◌, ◌≡◌, ◌≢◌, ◌≤◌, ◌<◌, ◌+◌, ◌/◌, ◌%◌, refl, arith, sym, ap, subst, ◌∙◌, List, [], ◌∷◌, ◌++◌, length, map, get_or, set, All, if◌then◌else◌, Some}
+use Rattle.std.proofs.Common.{ℕ, ◌≡◌, ◌≢◌, ◌≤◌, ◌<◌, ◌+◌, ◌/◌, arith, sym, ap, subst, ◌∙◌, List, length, get_or, set}
 use Rattle.std.proofs.lemmas.List.{length-map, get_or-map, length-set}
 use Rattle.std.proofs.lemmas.List.{get_or_default, append-nil}
 use Rattle.trust_types.specs.declared.levels.Level.{Level}
-use Rattle.trust_types.specs.declared.graphs.Cert.{Cert}
 use Rattle.trust_types.specs.declared.limits.TheConstants.{MOST_CERTS}
 use Rattle.trust_types.specs.Changes.{Certified}
 use Rattle.frozen.specs.Parts.{Part, no_part, count, degree_in, giver_in, IsPart}
@@ -16,7 +15,7 @@ use Rattle.cert_book.specs.declared.slots.Slot.TheVariants.{Moved}
 use Rattle.cert_book.specs.inner.Slots.{slot_part, slot_parts, slot_at, HasBlock, IsReady}
 use Rattle.cert_book.specs.inner.Blocks.{AreSlots, IsAfter}
 use Rattle.cert_book.proofs.Lists.{map-set, all_set}
-use Rattle.cert_book.proofs.Putting.{Putting, put_names, put_seeds, put_standing, put_certs, put_parts, count_new}
+use Rattle.cert_book.proofs.Putting.{certs_set, Putting, put_names, put_seeds, put_standing, put_certs, put_parts, count_new}
 
 pub slot_inside : (slots : List Slot) (a c x : ℕ) → AreSlots slots a c → x < accounts (slot_parts slots) → x / 64 < length slots
 slot_inside slots a c x is below = omega (arith, length-map slots slot_part, part_within (slot_parts slots) (are_full (slot_parts slots) is.parts) x below)
@@ -108,3 +107,14 @@ row_here slots a c x s is below read =
 pub own_here : (slots : List Slot) (a c x : ℕ) (s : Slot) → AreSlots slots a c → x < accounts (slot_parts slots) → s ≡ get_or slots (x / 64) s → 0 < degree_in (slot_part s) (row_of x) → giver_in (slot_part s) (row_of x) ≡ x
 own_here slots a c x s is below read =
     subst (λ (p : Part). 0 < degree_in p (row_of x) → giver_in p (row_of x) ≡ x) (slot_read slots (x / 64) s (slot_inside slots a c x is below) read) (is.parts.giver x below)
+
+part_le : (ps : List Part) (k : ℕ) → k < length ps → length (part_at ps k).takers ≤ certs ps
+part_le ps k lt = omega (arith, certs_set ps k no_part lt)
+
+-- What the copy of one block takes.
+pub copy_le : (slots : List Slot) (a c k : ℕ) (s : Slot) → AreSlots slots a c → k < length slots → s ≡ get_or slots k s → 1 + count (slot_part s) + length (slot_part s).takers ≤ 65 + certs (slot_parts slots)
+copy_le slots a c k s is lt read =
+    let inside : k < length (slot_parts slots) = omega (arith, lt, length-map slots slot_part) in
+    let few : count (slot_part s) ≤ 64 = subst (λ (p : Part). count p ≤ 64) (slot_read slots k s lt read) (is.parts.parts k inside).few in
+    let taken : length (slot_part s).takers ≤ certs (slot_parts slots) = subst (λ (p : Part). length p.takers ≤ certs (slot_parts slots)) (slot_read slots k s lt read) (part_le (slot_parts slots) k inside) in
+    omega (arith, few, taken)

@@ -1,18 +1,16 @@
 -- One account joins.
-use Rattle.std.proofs.Common.{ℕ, zero, suc, Bool, true, false, ◌≡◌, ◌≢◌, ◌≤◌, ◌<◌, ◌+◌, ◌-◌, ◌*◌, ◌/◌, ◌%◌, ◌⊎◌, inl, inr, refl, arith, sym, ap, subst, ◌∙◌, List, [], ◌∷◌, ◌++◌, length, get_or, set, slice_get, None, length-append, length-set}
+use Rattle.std.proofs.Common.{ℕ, zero, suc, Bool, false, ◌≡◌, ◌≢◌, ◌≤◌, ◌<◌, ◌+◌, ◌-◌, ◌*◌, ◌/◌, ◌%◌, ◌⊎◌, inl, inr, refl, arith, sym, ap, subst, ◌∙◌, List, [], ◌∷◌, ◌++◌, length, get_or, set, None, length-set}
 use Rattle.std.proofs.lemmas.Bool.{cases_eq, cases_lt}
 use Rattle.std.proofs.lemmas.List.{append-nil, append_assoc, get_or_past, get_or_append_left, get_or_push, length_push}
 use Rattle.std.proofs.lemmas.List.Quantifiers.{all_pairs_push}
-use Rattle.trust_types.specs.declared.levels.Level.{Level}
-use Rattle.trust_types.specs.declared.levels.Level.TheVariants.{Observer}
 use Rattle.trust_types.specs.Levels.{IsGrade}
 use Rattle.trust_types.specs.NameLists.{AreApart, number_of}
 use Rattle.name_index.proofs.Indexing.{differs}
-use Rattle.frozen.specs.Parts.{Part, no_part, count, marks_seed, degree_in, giver_in, taker_in, level_in, standing_in, IsPart}
+use Rattle.frozen.specs.Parts.{Part, no_part, count, marks_seed, giver_in, taker_in, level_in, standing_in, IsPart}
 use Rattle.frozen.specs.Writes.{with_account}
 use Rattle.frozen.specs.Sites.{part_at, part_of, names, accounts, is_seed, degree, taker, standing, certs, AreParts}
 use Rattle.frozen.proofs.Among.{among-at, among-found}
-use Rattle.frozen.proofs.Shifts.{degree_past, standing_past}
+use Rattle.frozen.proofs.Shifts.{degree_past}
 use Rattle.frozen.proofs.Puts.{account_part, account_standing}
 use Rattle.frozen.proofs.Numbering.{AreFull, row_within, row_outside, part_within, names_push, certs_push}
 use Rattle.frozen.proofs.Readers.{part_is, are_full, no_part_is}
@@ -290,9 +288,9 @@ next_after slots t name added = map-append slot_part slots (t ∷ []) ∙ ap (λ
 
 held_push : (slots : List Slot) (t : Slot) → All HasBlock slots → HasBlock t → All HasBlock (slots ++ t ∷ [])
 held_push slots t all held = λ k d lt. elim (cases_lt k (length slots)) [
-      | inl inside ↦ subst HasBlock (sym (get_or_append_left slots (t ∷ []) d k inside)) (all k d inside)
-      | inr past ↦ subst HasBlock (sym (get_or_push slots t d k (omega (arith, length_push slots t)))) held
-    ]
+  | inl inside ↦ subst HasBlock (sym (get_or_append_left slots (t ∷ []) d k inside)) (all k d inside)
+  | inr past ↦ subst HasBlock (sym (get_or_push slots t d k (omega (arith, length_push slots t)))) held
+]
 
 pub next_book : (slots written : List Slot) (a c : ℕ) (name : List ℕ) (t : Slot) → AreSlots slots a c → length slots ≤ a / 64 → number_of (names (slot_parts slots)) name ≡ None → accounts (slot_parts slots) < MOST_ACCOUNTS
     → written ≡ slots ++ t ∷ [] → slot_part t ≡ with_account no_part name → HasBlock t → AreSlots written (a + 1) c

@@ -152,7 +152,7 @@ kept_cert ps qs index takings given seeds x y l gives after kept is long there o
         ])
       ];
       seeds = kept.seeds ∙ sym (ap (λ (ns : List (List ℕ)). seeds_before (is_seed qs) (length ns)) named
-      ∙ sum_below-eq (accounts ps) (λ a. one (is_seed qs a)) (λ a. one (is_seed ps a)) (λ a lt. ap one (after.seeds a)));
+          ∙ sum_below-eq (accounts ps) (λ a. one (is_seed qs a)) (λ a. one (is_seed ps a)) (λ a lt. ap one (after.seeds a)));
     }
 
 -- Room was made, whatever becomes of it.

@@ -11,3 +11,4 @@ mod Reading
 mod Seeding
 mod Passing
 mod Keeping
+pub mod Recording

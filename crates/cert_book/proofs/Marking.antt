@@ -1,12 +1,11 @@
 -- The seed mark of one account is set.
-use Rattle.std.proofs.Common.{ℕ, zero, suc, Bool, true, false, ◌==◌, ◌≡◌, ◌≢◌, ◌≤◌, ◌<◌, ◌+◌, ◌/◌, ◌%◌, inl, inr, refl, arith, sym, ap, subst, ◌∙◌, List, [], ◌∷◌, ◌++◌, length, get_or, set, if◌then◌else◌, length-set}
+use Rattle.std.proofs.Common.{ℕ, Bool, true, false, ◌==◌, ◌≡◌, ◌≢◌, ◌<◌, ◌/◌, ◌%◌, inl, inr, refl, arith, sym, ap, subst, ◌∙◌, List, length, get_or, set, if◌then◌else◌, length-set}
 use Rattle.std.proofs.lemmas.Bool.{cases_eq}
 use Rattle.std.proofs.lemmas.Bool.Decides.{nat_tests}
 use Rattle.std.proofs.lemmas.List.{get_or-set_same, get_or-set_other, append-nil}
-use Rattle.trust_types.specs.declared.levels.Level.{Level}
 use Rattle.trust_types.specs.Changes.{Seeded, Unseeded}
 use Rattle.trust_types.specs.NameLists.{AreApart}
-use Rattle.frozen.specs.Parts.{Part, no_part, count, marks_seed, degree_in, giver_in, taker_in, standing_in, IsPart}
+use Rattle.frozen.specs.Parts.{Part, count, marks_seed, degree_in, giver_in, taker_in, standing_in, IsPart}
 use Rattle.frozen.specs.Writes.{with_seed}
 use Rattle.frozen.specs.Sites.{part_at, part_of, names, accounts, is_seed, degree, taker, standing, certs, AreParts}
 use Rattle.frozen.proofs.Numbering.{row_within, part_within}

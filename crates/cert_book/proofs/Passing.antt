@@ -1,12 +1,10 @@
 -- What a change is that a judge accepts.
-use Rattle.std.proofs.Common.{ℕ, Bool, true, false, not, ◌&&◌, ◌==◌, nat_lt, nat_le, if◌then◌else◌, ◌≡◌, ◌≢◌, ◌≤◌, ◌<◌, ◌+◌, inl, inr, refl, arith, sym, ap, subst, ◌∙◌, List, length, get_or, Option, Some, None, Result, Ok, Err, All, OnOk}
-use Rattle.std.specs.List.{list_any, range_with_len, Any, Contains}
+use Rattle.std.proofs.Common.{ℕ, Bool, true, false, not, ◌&&◌, ◌==◌, nat_lt, nat_le, if◌then◌else◌, ◌≡◌, ◌≢◌, ◌≤◌, ◌<◌, ◌+◌, refl, arith, sym, ap, subst, ◌∙◌, List, length, Option, Some, None, Result, Ok, Err, All, OnOk}
+use Rattle.std.specs.List.{Any, Contains}
 use Rattle.std.proofs.lemmas.Bool.Decides.{nat_tests}
 use Rattle.std.proofs.lemmas.List.{get_or_default}
 use Rattle.std.proofs.lemmas.List.Folds.{Any-from_list_any}
-use Rattle.std.specs.Str.{bytes_eq}
 use Rattle.std.proofs.lemmas.Slice.Eq.{bytes_eq-Decides}
-use Rattle.trust_types.specs.declared.levels.Level.{Level}
 use Rattle.trust_types.specs.declared.graphs.Cert.{Cert}
 use Rattle.trust_types.specs.declared.limits.TheConstants.{MOST_ACCOUNTS, MOST_CERTS}
 use Rattle.trust_types.specs.Levels.{is_grade, rank}
@@ -15,9 +13,8 @@ use Rattle.trust_types.specs.NameLists.{number_of}
 use Rattle.trust_types.specs.Tables.{Table, has_level}
 use Rattle.trust_types.specs.Changes.{Joined, Seeded, Unseeded, Certified, Tabled}
 use Rattle.name_index.proofs.Indexing.{differs, not_found}
-use Rattle.frozen.specs.Writes.{graded}
 use Rattle.cert_book.specs.declared.judging.CertFault.{CertFault}
-use Rattle.cert_book.specs.declared.judging.CertFault.TheVariants.{NameTaken, NotSeed, LastSeed}
+use Rattle.cert_book.specs.declared.judging.CertFault.TheVariants.{NotSeed, LastSeed}
 use Rattle.cert_book.specs.Books.{Book, IsAccount, accounts, Follows, HasPlace}
 use Rattle.cert_book.specs.Judged.{Judged, ◌>>=◌, fault_if, fault_unless, not_taken, has_other_seed, same_level, same_table, judged_name, judged_seeding, judged_unseeding, judged_certifying, judged_table}
 
@@ -95,10 +92,10 @@ another b a e =
 
 pub unseeding_follows : (b : Book) (a : ℕ) (r : Judged) → IsAccount b a → r ≡ judged_unseeding b a → OnOk r (Follows b (Unseeded a))
 unseeding_follows b a r below is = on_ok r (Follows b (Unseeded a)) (λ ok. (
-    below,
-    passed_unless (b.is_seed a) _ (first (fault_unless (b.is_seed a) _) _ tt (sym is ∙ ok)),
-    another b a (passed_unless (has_other_seed b a) _ (later (fault_unless (b.is_seed a) _) _ tt (sym is ∙ ok))),
-  ))
+  below,
+  passed_unless (b.is_seed a) _ (first (fault_unless (b.is_seed a) _) _ tt (sym is ∙ ok)),
+  another b a (passed_unless (has_other_seed b a) _ (later (fault_unless (b.is_seed a) _) _ tt (sym is ∙ ok))),
+))
 
 four : (t1 t2 t3 t4 : Bool) (f1 f2 f3 f4 : CertFault) → (fault_if t1 f1 >>= λ _. (fault_unless t2 f2 >>= λ _. (fault_if t3 f3 >>= λ _. fault_if t4 f4))) ≡ Ok tt
     → (t1 ≡ false) × (t2 ≡ true) × (t3 ≡ false) × (t4 ≡ false)
@@ -146,9 +143,9 @@ same_tables t u same = both_true _ _ (same_test t.levels u.levels (ap (λ (x : T
 
 pub table_follows : (b : Book) (t : Table) (r : Judged) → r ≡ judged_table b t → OnOk r (Follows b (Tabled t))
 table_follows b t r is = on_ok r (Follows b (Tabled t)) (λ ok. (
-    not_below t.levels b.table.levels (passed_if (nat_lt t.levels b.table.levels) _ (first (fault_if (nat_lt t.levels b.table.levels) _) _ tt (sym is ∙ ok))),
-    λ same. contradiction (same_table t b.table) (same_tables t b.table same) (passed_if (same_table t b.table) _ (later (fault_if (nat_lt t.levels b.table.levels) _) _ tt (sym is ∙ ok))),
-  ))
+  not_below t.levels b.table.levels (passed_if (nat_lt t.levels b.table.levels) _ (first (fault_if (nat_lt t.levels b.table.levels) _) _ tt (sym is ∙ ok))),
+  λ same. contradiction (same_table t b.table) (same_tables t b.table same) (passed_if (same_table t b.table) _ (later (fault_if (nat_lt t.levels b.table.levels) _) _ tt (sym is ∙ ok))),
+))
 
 -- A word that is no name is no account's.
 pub unnamed : (names : List (List ℕ)) (word : List ℕ) → All IsName names → is_name word ≡ false → number_of names word ≡ None

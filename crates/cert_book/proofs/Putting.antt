@@ -1,17 +1,16 @@
 -- One certificate is put into the parts of a site.
-use Rattle.std.proofs.Common.{ℕ, zero, suc, Bool, true, false, ◌==◌, ◌&&◌, ◌≡◌, ◌≢◌, ◌≤◌, ◌<◌, ◌+◌, ◌-◌, ◌*◌, ◌/◌, ◌%◌, ◌⊎◌, inl, inr, refl, arith, sym, ap, subst, ◌∙◌, List, [], ◌∷◌, ◌++◌, length, get_or, set, slice_index, if◌then◌else◌}
-use Rattle.std.proofs.lemmas.Bool.{cases_eq, cases_lt}
+use Rattle.std.proofs.Common.{ℕ, zero, suc, Bool, false, ◌==◌, ◌&&◌, ◌≡◌, ◌≢◌, ◌≤◌, ◌<◌, ◌+◌, ◌/◌, ◌%◌, ◌⊎◌, inl, inr, arith, sym, ap, subst, ◌∙◌, List, [], ◌∷◌, ◌++◌, length, get_or, set, if◌then◌else◌}
+use Rattle.std.proofs.lemmas.Bool.{cases_eq}
 use Rattle.std.proofs.lemmas.Bool.Decides.{nat_tests}
 use Rattle.std.proofs.lemmas.List.{get_or-set_same, get_or-set_other, length-set}
 use Rattle.std.proofs.lemmas.List.Sums.{sum_by-cons}
 use Rattle.trust_types.specs.declared.levels.Level.{Level}
-use Rattle.trust_types.specs.declared.levels.Level.TheVariants.{Observer}
 use Rattle.trust_types.specs.declared.graphs.Cert.{Cert}
 use Rattle.trust_types.specs.declared.limits.TheConstants.{MOST_CERTS}
 use Rattle.trust_types.specs.Levels.{IsGrade}
 use Rattle.trust_types.specs.NameLists.{AreApart}
 use Rattle.frozen.specs.Parts.{Part, no_part, count, marks_seed, degree_in, giver_in, taker_in, level_in, standing_in, IsPart}
-use Rattle.frozen.specs.Writes.{graded, row_of, with_giver, IsPut}
+use Rattle.frozen.specs.Writes.{graded, row_of, IsPut}
 use Rattle.frozen.specs.Sites.{part_at, part_of, names, accounts, is_seed, degree, taker, standing, certs, AreParts}
 use Rattle.frozen.proofs.Among.{among-at, among-found}
 use Rattle.frozen.proofs.Numbering.{row_within, part_within}

@@ -1,5 +1,5 @@
 -- The certificates that an account gives, and those that it has taken, as they are read one by one.
-use Rattle.std.proofs.Common.{ℕ, Bool, true, false, ◌≡◌, ◌≢◌, ◌≤◌, ◌<◌, ◌/◌, ◌%◌, inl, inr, refl, arith, sym, ap, subst, ◌∙◌, List, length, get_or, slice_get, Some}
+use Rattle.std.proofs.Common.{ℕ, true, ◌≡◌, ◌≤◌, ◌<◌, ◌%◌, inl, inr, refl, arith, sym, ap, subst, ◌∙◌, List, length, get_or, slice_get, Some}
 use Rattle.std.proofs.lemmas.Bool.{cases_lt}
 use Rattle.trust_types.specs.declared.levels.Level.{Level}
 use Rattle.trust_types.specs.declared.graphs.Cert.{Cert}

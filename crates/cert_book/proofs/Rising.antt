@@ -1,7 +1,7 @@
 -- Accounts in rising order, with one more or one less.
-use Rattle.std.proofs.Common.{ℕ, zero, suc, Bool, true, false, cond, not, ◌||◌, ◌==◌, if◌then◌else◌, ◌≡◌, ◌≢◌, ◌≤◌, ◌<◌, ◌+◌, ◌-◌, ◌⊎◌, inl, inr, refl, arith, sym, ap, ◌∙◌, List, [], ◌∷◌, length, get_or, slice_index, Result, Ok, Err}
+use Rattle.std.proofs.Common.{ℕ, Bool, true, false, ◌||◌, ◌==◌, if◌then◌else◌, ◌≡◌, ◌≢◌, ◌≤◌, ◌<◌, ◌+◌, ◌-◌, ◌⊎◌, inl, inr, arith, sym, ap, ◌∙◌, List, ◌∷◌, length, get_or, Result, Ok, Err}
 use Rattle.std.specs.Prelude.{insert, remove}
-use Rattle.std.specs.List.{list_any, Any}
+use Rattle.std.specs.List.{Any}
 use Rattle.std.proofs.lemmas.Bool.{cases_eq, cases_lt}
 use Rattle.std.proofs.lemmas.List.{get_or_default}
 use Rattle.std.proofs.lemmas.Bool.Decides.{nat_tests}
@@ -104,9 +104,9 @@ has_at xs k a lt is = list_any_at (λ (x : ℕ). x == a) xs k 0 lt (equal_test (
 -- One that isn't where it belongs isn't among them.
 pub lacks_at : (xs : List ℕ) (place x : ℕ) → IsPlace xs x place → has xs x ≡ false
 lacks_at xs place x is = list_any_none (λ (y : ℕ). y == x) xs (λ k d lt. unequal_test (get_or xs k d) x (λ same. elim (cases_lt k place) [
-      | inl before ↦ omega (arith, same, is.before k before, default k d lt)
-      | inr behind ↦ omega (arith, same, is.behind k behind lt, default k d lt)
-    ]))
+  | inl before ↦ omega (arith, same, is.before k before, default k d lt)
+  | inr behind ↦ omega (arith, same, is.behind k behind lt, default k d lt)
+]))
   where
     default : (k d : ℕ) → k < length xs → get_or xs k d ≡ get_or xs k 0
     default k d lt = get_or_default xs k d 0 lt
@@ -115,11 +115,11 @@ without : (xs : List ℕ) (place x : ℕ) → Rises xs → place < length xs →
 without xs place x rises within is =
     let long : length (remove xs place) + 1 ≡ length xs = length-remove xs place within in
     list_any_none (λ (y : ℕ). y == x) (remove xs place) (λ k d lt. unequal_test (get_or (remove xs place) k d) x (λ same.
-        let here : get_or (remove xs place) k d ≡ get_or (remove xs place) k 0 = get_or_default (remove xs place) k d 0 lt in
-        elim (removed xs place k within) [
-          | inl low ↦ omega (arith, same, here, low.1, is, rises k place low.0 within)
-          | inr high ↦ omega (arith, same, here, high.1, is, rises place (k + 1) (omega (arith, high.0)) (omega (arith, lt, long)))
-        ]))
+    let here : get_or (remove xs place) k d ≡ get_or (remove xs place) k 0 = get_or_default (remove xs place) k d 0 lt in
+    elim (removed xs place k within) [
+      | inl low ↦ omega (arith, same, here, low.1, is, rises k place low.0 within)
+      | inr high ↦ omega (arith, same, here, high.1, is, rises place (k + 1) (omega (arith, high.0)) (omega (arith, lt, long)))
+    ]))
 
 still : (x a : ℕ) (h new : Bool) → h ≡ ((x == a) || new) → x ≢ a → new ≡ h
 still x a h new is apart = grind (arith, nat_tests)
@@ -153,9 +153,9 @@ stands_at xs a among =
 -- What a binary search tells.
 pub told : (xs : List ℕ) (a : ℕ) (r : Result ℕ ℕ) → Rises xs → IsBinarySearchResult (λ y. nat_cmp y a) xs r → MatchResult r (IsFound xs a) (IsPlace xs a)
 told xs a r rises answer = facts r (searched xs a r answer (λ i j le lt. elim (cases_eq i j) [
-      | inl same ↦ let e : get_or xs i 0 ≡ get_or xs j 0 = ap (λ (k : ℕ). get_or xs k 0) same in omega (arith, e)
-      | inr apart ↦ omega (arith, rises i j (omega (arith, le, apart)) lt)
-    ]))
+  | inl same ↦ let e : get_or xs i 0 ≡ get_or xs j 0 = ap (λ (k : ℕ). get_or xs k 0) same in omega (arith, e)
+  | inr apart ↦ omega (arith, rises i j (omega (arith, le, apart)) lt)
+]))
   where
     facts : (s : Result ℕ ℕ) → MatchResult s (λ i. (i < length xs) × (get_or xs i 0 ≡ a)) (λ i. (i ≤ length xs) × ((k : ℕ) → k < i → get_or xs k 0 < a) × ((k : ℕ) → i ≤ k → k < length xs → a < get_or xs k 0)) → MatchResult s (IsFound xs a) (IsPlace xs a)
     facts (Ok i) h = record { within = h.0; here = h.1 }

@@ -1,10 +1,9 @@
 -- How many accounts are seeds.
-use Rattle.std.proofs.Common.{ℕ, zero, suc, Bool, true, false, not, cond, ◌||◌, ◌&&◌, ◌==◌, if◌then◌else◌, nat_lt, ◌≡◌, ◌≢◌, ◌≤◌, ◌<◌, ◌+◌, inl, inr, refl, arith, sym, ap, ◌∙◌, List, [], ◌∷◌, ◌++◌}
+use Rattle.std.proofs.Common.{ℕ, zero, suc, Bool, true, false, not, ◌||◌, ◌&&◌, ◌==◌, if◌then◌else◌, nat_lt, ◌≡◌, ◌≢◌, ◌<◌, ◌+◌, inl, inr, refl, arith, sym, ap, ◌∙◌, [], ◌∷◌, ◌++◌}
 use Rattle.std.specs.List.{list_any, range_with_len}
 use Rattle.std.proofs.lemmas.Bool.{cases_eq}
 use Rattle.std.proofs.lemmas.Bool.Decides.{nat_tests}
 use Rattle.std.proofs.lemmas.List.Folds.{list_any-append}
-use Rattle.trust_types.specs.Sum.{sum_below}
 use Rattle.trust_types.proofs.Sums.{sum_below-eq}
 use Rattle.cert_book.specs.inner.Keeping.{seeds_before}
 
@@ -37,9 +36,9 @@ seeds_added old new x (suc n) is none lt = elim (cases_eq x n) [
 -- One account less is.
 pub seeds_removed : (old new : ℕ → Bool) (x n : ℕ) → ((a : ℕ) → new a ≡ (if a == x then false else old a)) → old x ≡ true → x < n → seeds_before new n + 1 ≡ seeds_before old n
 seeds_removed old new x n is seed lt = sym (seeds_added new old x n (λ a. elim (cases_eq a x) [
-      | inl same ↦ ap old same ∙ seed ∙ sym (set_here a x true (new a) same)
-      | inr apart ↦ sym (is a ∙ set_other a x false (old a) apart) ∙ sym (set_other a x true (new a) apart)
-    ]) (is x ∙ set_here x x false (old x) refl) lt)
+  | inl same ↦ ap old same ∙ seed ∙ sym (set_here a x true (new a) same)
+  | inr apart ↦ sym (is a ∙ set_other a x false (old a) apart) ∙ sym (set_other a x true (new a) apart)
+]) (is x ∙ set_here x x false (old x) refl) lt)
 
 range_more : (a n : ℕ) → range_with_len a (suc n) ≡ range_with_len a n ++ (a + n) ∷ []
 range_more a zero = let e : a ≡ a + 0 = omega arith in ap (λ (k : ℕ). k ∷ []) e

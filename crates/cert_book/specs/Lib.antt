@@ -1,3 +1,4 @@
 pub mod Books
 pub mod Judged
+pub mod Laws
 pub mod inner

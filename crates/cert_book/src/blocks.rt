@@ -95,10 +95,15 @@ impl Blocks {
     }
 
     /// Makes the block ready that has the account, or that it is to join. It copies the block where that is shared.
-    pub(crate) fn reserve<L: Ledger>(&mut self, account: u32, steps: &mut Steps<L>) -> Result<(), NoMemory>
+    pub(crate) fn reserve<L: Ledger>(
+        &mut self,
+        account: u32,
+        steps: &mut Steps<L>,
+    ) -> Result<(), NoMemory>
         requires { account ≤ accounts self.old.parts }
         ensures same { self.new.parts ≡ self.old.parts }
         ensures ready { OnOk result (self.new.ready ≡ Some account) }
+        ensures steps { steps.new ≤ steps.old + (65 + certs self.old.parts) }
     {
         if ((account / 64) as usize) < self.slots.len() {
             self.ready_block(account, steps)
@@ -112,6 +117,7 @@ impl Blocks {
         requires { account / 64 < length self.old.parts }
         ensures same { self.new.parts ≡ self.old.parts }
         ensures ready { OnOk result (self.new.ready ≡ Some account) }
+        ensures steps { steps.new ≤ steps.old + (65 + certs self.old.parts) }
     {
         self.ready = None;
         ready_slot(
@@ -128,6 +134,7 @@ impl Blocks {
         requires { length self.old.parts ≤ account / 64 }
         ensures same { self.new.parts ≡ self.old.parts }
         ensures ready { OnOk result (self.new.ready ≡ Some account) }
+        ensures steps { steps.new ≤ steps.old + 1 }
     {
         self.ready = None;
         self.slots.reserve(1)?;
@@ -234,7 +241,10 @@ impl Blocks {
     }
 
     /// Makes every block a shared one, and lends them once more, in order. At most a step a block. No block is ready then, whatever it answers.
-    pub(crate) fn share<L: Ledger>(&mut self, steps: &mut Steps<L>) -> Result<Vec<Arc<Block>>, NoMemory>
+    pub(crate) fn share<L: Ledger>(
+        &mut self,
+        steps: &mut Steps<L>,
+    ) -> Result<Vec<Arc<Block>>, NoMemory>
         ensures same { self.new ≡ record self.old { ready = None } }
         ensures shared { IfOk result (λ blocks. shared_parts blocks.items ≡ self.old.parts) }
         ensures few { length self.old.parts ≤ parts_for (accounts self.old.parts) }
@@ -265,6 +275,7 @@ fn counted(certs: u32, before: Level, after: Level) -> u32
 fn spare_block<L: Ledger>(alloc: Global, steps: &mut Steps<L>) -> Result<Block, NoMemory>
     ensures empty { IfOk result (λ b. b.part ≡ no_part) }
     ensures ready { IfOk result (λ b. b.has_room ≡ true) }
+    ensures steps { steps.new ≡ steps.old + 1 }
 {
     let mut block = Block::start(alloc, steps)?;
     block.reserve(0)?;

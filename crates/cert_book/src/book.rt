@@ -280,10 +280,16 @@ impl CertBook {
         ensures place { OnOk result (HasPlace (book self.now) (Certified cert.now)) }
     {
         fault_if(cert.from.0 == cert.to.0, CertFault::SelfCert)?;
-        fault_unless(self.caps.has(cert.level), CertFault::NoSuchLevel(self.caps.levels()))?;
+        fault_unless(
+            self.caps.has(cert.level),
+            CertFault::NoSuchLevel(self.caps.levels()),
+        )?;
         let stands = self.standing(cert.from, cert.to);
         fault_if(cert.level.rank() == stands.rank(), CertFault::Same)?;
-        fault_if(self.certs() >= MOST_CERTS && !stands.is_grade(), CertFault::CertsFull)
+        fault_if(
+            self.certs() >= MOST_CERTS && !stands.is_grade(),
+            CertFault::CertsFull,
+        )
     }
 
     /// Judges a new account by its word. Accepted, it is the account's name. It takes no memory.
@@ -374,7 +380,8 @@ impl CertBook {
     /// Makes room for one addition: a join where neither account is given, a seed or its withdrawal where the subject alone is, a certificate where
     /// both are, and a table in each case. Room that was reserved before is given up. What the book says stays, whatever it answers.
     ///
-    /// It copies the one block that the addition writes where frozen graphs share it, and counts the steps of that.
+    /// It copies the one block that the addition writes where frozen graphs share it, and no other: that is a step an account and a certificate of
+    /// 64 accounts.
     ///
     /// # Errors
     /// [`NoMemory`] where there isn't enough. There is no room then.
@@ -389,6 +396,7 @@ impl CertBook {
         ensures room { OnOk result (self.new.room ≡ Some (record { author = author; subject = subject })) }
         ensures none { OnErr result (self.new.room ≡ None) }
         ensures same { self.new.revision ≡ self.old.revision }
+        ensures steps { steps.new ≤ steps.old + (65 + (book self.old).certs) }
     {
         self.room = None;
         reserve_beside(&author, &subject, &mut self.numbers, &mut self.takings)?;

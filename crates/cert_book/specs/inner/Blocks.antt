@@ -1,7 +1,7 @@
 -- The blocks of the book, and what one change leaves of them. The crate's own functions alone speak of it.
-use Rattle.std.specs.Prelude.{ℕ, Bool, true, ◌≡◌, ◌<◌, ◌+◌, ◌/◌, List, [], ◌∷◌, ◌++◌, Option, Some, None, All, fold, length}
+use Rattle.std.specs.Prelude.{ℕ, true, ◌≡◌, ◌<◌, ◌+◌, ◌/◌, List, [], ◌∷◌, ◌++◌, Option, Some, None, All, fold, length}
 use Rattle.trust_types.specs.declared.levels.Level.{Level}
-use Rattle.trust_types.specs.Changes.{Change, Joined, Seeded, Unseeded, Certified, Tabled, seed_after, level_after, names as names_of, certs_among}
+use Rattle.trust_types.specs.Changes.{Change, Certified, seed_after, level_after, names as names_of, certs_among}
 use Rattle.frozen.specs.Parts.{Part, PartWithRoom, no_part, count}
 use Rattle.frozen.specs.Sites.{AreParts, part_at, names, accounts, is_seed, standing, certs}
 use Rattle.frozen.specs.Writes.{graded}

@@ -1,5 +1,5 @@
 -- What the book keeps beside its blocks, and for which addition there is room. The crate's own functions alone speak of it.
-use Rattle.std.specs.Prelude.{ℕ, Bool, true, false, ◌≡◌, ◌<◌, List, Option, Some, None, All, length, if◌then◌else◌}
+use Rattle.std.specs.Prelude.{ℕ, Bool, ◌≡◌, ◌<◌, List, Option, Some, None, All, length, if◌then◌else◌}
 use Rattle.trust_types.specs.Levels.{is_grade}
 use Rattle.trust_types.specs.Names.{IsName}
 use Rattle.trust_types.specs.Sum.{sum_below}

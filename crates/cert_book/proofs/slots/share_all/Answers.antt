@@ -1,4 +1,4 @@
-use Rattle.std.proofs.Common.{◌≡◌, ◌∙◌, ap, sym, arith, rules, length, List, [], ◌∷◌, ◌++◌, slice_set, ◌≤◌}
+use Rattle.std.proofs.Common.{◌∙◌, ap, sym, arith, rules}
 use Rattle.frozen.specs.Sites.{shared_parts}
 use Rattle.cert_book.specs.inner.Slots.{slot_part, slot_parts, HasBlock}
 use Rattle.cert_book.proofs.Lists.{map-set_same, all_set, shared_more}

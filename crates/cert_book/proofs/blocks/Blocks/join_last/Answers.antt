@@ -1,4 +1,4 @@
-use Rattle.std.proofs.Common.{◌≡◌, ◌<◌, ◌/◌, arith, length, rules, refl}
+use Rattle.std.proofs.Common.{◌≡◌, ◌<◌, ◌/◌, arith, length, rules}
 use Rattle.std.specs.Vec.{vec_len}
 use Rattle.std.proofs.lemmas.List.{length-map}
 use Rattle.cert_book.specs.inner.Slots.{slot_part}

@@ -1,6 +1,5 @@
-use Rattle.std.proofs.Common.{◌≡◌, ◌<◌, ◌≤◌, ◌/◌, ◌∙◌, arith, length, rules, refl, subst, Option}
+use Rattle.std.proofs.Common.{◌≤◌, ◌/◌, arith, length}
 use Rattle.std.proofs.lemmas.List.{length-map}
-use Rattle.frozen.specs.Parts.{PartWithRoom}
 use Rattle.cert_book.specs.inner.Slots.{slot_part}
 use Rattle.cert_book.proofs.Joining.{next_book, next_joins, end_slot}
 use Rattle.cert_book.proofs.blocks.Blocks.join_next.Goals as goal

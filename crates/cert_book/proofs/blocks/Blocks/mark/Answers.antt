@@ -1,4 +1,4 @@
-use Rattle.std.proofs.Common.{◌≡◌, arith, rules, length, refl}
+use Rattle.std.proofs.Common.{◌≡◌, arith, rules, length}
 use Rattle.std.specs.Vec.{vec_len}
 use Rattle.cert_book.proofs.Entering.{slot_inside, row_here, ready_read}
 use Rattle.cert_book.proofs.Marking.{marked_book, marked_after}

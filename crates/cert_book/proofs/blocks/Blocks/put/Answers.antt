@@ -1,7 +1,5 @@
-use Rattle.std.proofs.Common.{◌≡◌, ◌∙◌, ◌+◌, arith, rules, length, ap, refl, Some, subst}
+use Rattle.std.proofs.Common.{◌≡◌, arith, rules, length}
 use Rattle.std.specs.Vec.{vec_len}
-use Rattle.frozen.specs.Writes.{graded}
-use Rattle.trust_types.specs.declared.levels.Level.{Level}
 use Rattle.cert_book.proofs.Entering.{Entry, entry_counts, entry_book, entry_after, slot_inside, row_here, own_here, ready_read}
 use Rattle.cert_book.proofs.blocks.Blocks.put.Goals as goal
 

@@ -1,9 +1,8 @@
-use Rattle.std.proofs.Common.{◌≡◌, ◌<◌, ◌/◌, arith, length, List, ap, None, Some}
+use Rattle.std.proofs.Common.{◌<◌, ◌/◌, arith, length}
 use Rattle.std.proofs.lemmas.List.{length-map, length-set}
-use Rattle.frozen.specs.Parts.{Part}
-use Rattle.cert_book.specs.inner.Slots.{slot_part, slot_parts}
-use Rattle.cert_book.specs.inner.Blocks.{Blocks}
+use Rattle.cert_book.specs.inner.Slots.{slot_part}
 use Rattle.cert_book.proofs.Lists.{map-set_same}
+use Rattle.cert_book.proofs.Entering.{copy_le}
 use Rattle.cert_book.proofs.Marking.{ready_book, ready_set}
 use Rattle.cert_book.proofs.blocks.Blocks.ready_block.Goals as goal
 
@@ -32,3 +31,15 @@ returns-clause-same g c =
     let below = rw (← c.self.view_is) at c.requires in
     let lt : c.args.account / 64 < length c.self.inside.slots.items = omega (arith, below, length-map c.self.inside.slots.items slot_part) in
     rw (← c.self.view_is) (map-set_same slot_part c.self.inside.slots.items (c.args.account / 64) c.index_mut.result.now c.ready_slot.new.slot lt c.index_mut.ensures.value c.ready_slot.ensures.same)
+
+pub returns-in_err-ready_slot-clause-steps : goal.returns-in_err-ready_slot-clause-steps
+returns-in_err-ready_slot-clause-steps g c =
+    let below = rw (← c.self.view_is) at c.requires in
+    let lt : c.args.account / 64 < length c.self.inside.slots.items = omega (arith, below, length-map c.self.inside.slots.items slot_part) in
+    rw (← c.self.view_is) (omega (arith, c.ready_slot.ensures.steps, copy_le _ _ _ _ c.index_mut.result.now c.self.invariant.0 lt c.index_mut.ensures.value))
+
+pub returns-clause-steps : goal.returns-clause-steps
+returns-clause-steps g c =
+    let below = rw (← c.self.view_is) at c.requires in
+    let lt : c.args.account / 64 < length c.self.inside.slots.items = omega (arith, below, length-map c.self.inside.slots.items slot_part) in
+    rw (← c.self.view_is) (omega (arith, c.ready_slot.ensures.steps, copy_le _ _ _ _ c.index_mut.result.now c.self.invariant.0 lt c.index_mut.ensures.value))

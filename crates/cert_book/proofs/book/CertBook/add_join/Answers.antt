@@ -1,4 +1,4 @@
-use Rattle.std.proofs.Common.{refl, sym, ◌∙◌}
+use Rattle.std.proofs.Common.{refl, ◌∙◌}
 use Rattle.cert_book.proofs.Passing.{none_has}
 use Rattle.cert_book.proofs.Keeping.{kept_join}
 use Rattle.cert_book.proofs.Adding.{adds}
@@ -12,7 +12,7 @@ invariant_of-self g c =
     let none = none_has _ _ (rw (← c.self.view_is) at c.requires.follows) in
     record {
       kept = kept_join _ _ c.self.inside.numbers c.push.new.self c.self.inside.takings c.push_list.new.self _ c.args.name c.join-account.ensures.parts c.join-account.ensures.joined c.self.invariant.kept c.bytes-bytes.ensures.name
-      (c.push.ensures _ c.self.invariant.kept.numbers none (c.account.view_is ∙ c.join-account.ensures.account)) c.push_list.ensures.long c.push_list.ensures.same;
+          (c.push.ensures _ c.self.invariant.kept.numbers none (c.account.view_is ∙ c.join-account.ensures.account)) c.push_list.ensures.long c.push_list.ensures.same;
       room = tt;
     }
 

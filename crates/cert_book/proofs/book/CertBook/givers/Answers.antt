@@ -1,4 +1,4 @@
-use Rattle.std.proofs.Common.{ap, sym, ◌∙◌, ℕ, ◌≡◌, ◌≤◌, arith, length}
+use Rattle.std.proofs.Common.{ap, sym, ◌∙◌, ℕ, ◌≡◌, arith}
 use Rattle.trust_types.specs.Levels.{is_grade}
 use Rattle.frozen.specs.Sites.{standing}
 use Rattle.cert_book.specs.inner.Takings.{has}

@@ -1,4 +1,4 @@
-use Rattle.std.proofs.Common.{sym, ◌∙◌, List, ℕ}
+use Rattle.std.proofs.Common.{sym, ◌∙◌}
 use Rattle.cert_book.proofs.Passing.{on_ok, unknown}
 use Rattle.cert_book.proofs.book.CertBook.judge_name.Goals as goal
 

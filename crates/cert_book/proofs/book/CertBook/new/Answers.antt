@@ -1,5 +1,4 @@
-use Rattle.std.proofs.Common.{◌∙◌, ◌≡◌, ℕ, [], List, ap, subst, sym}
-use Rattle.frozen.specs.Parts.{Part}
+use Rattle.std.proofs.Common.{◌∙◌, ap, subst, sym}
 use Rattle.cert_book.specs.inner.Blocks.{Blocks}
 use Rattle.cert_book.specs.inner.Keeping.{AreKept}
 use Rattle.cert_book.proofs.Keeping.{kept_new}

@@ -1,6 +1,3 @@
-use Rattle.std.proofs.Common.{subst, List, ℕ}
-use Rattle.std.specs.List.Sorted.{IsBinarySearchResult}
-use Rattle.std.specs.Ordering.{nat_cmp}
 use Rattle.cert_book.proofs.Rising.{told}
 use Rattle.cert_book.proofs.takings.Givers.search.Goals as goal
 
