@@ -76,4 +76,4 @@ act_judged h act found moment (Refused reply) is w = (w.0 ∙ judge-weighed h ac
 act_judged h act found moment (Kept x reply) is w =
     (w.0 ∙ judge-weighed h act found is, w.1, ap (λ (a : ℕ). record_of (accounts (records h)) a moment act.command) (sym (author-found (site_of h) act.author found (sym is))) ∙ w.2, w.3)
 act_judged h act found moment (LogsIn account token) is w = (sym (judge-weighed h act found is) ∙ w.0, w.1, w.2)
-act_judged h act found moment LogsOut is w = sym (judge-weighed h act found is) ∙ w
+act_judged h act found moment LogsOut is w = (sym (judge-weighed h act found is) ∙ w.0, w.1)

@@ -55,7 +55,7 @@ IsWeighed s held author moment command (Kept x reply) =
     × CanAdd s.certs s.posts x
 IsWeighed s held author moment command (LogsIn account token) =
     (reply_to s held author command ≡ LoggedIn account) × (token_of command ≡ Some token) × (who s.live token ≡ None)
-IsWeighed s held author moment command LogsOut = reply_to s held author command ≡ LoggedOut
+IsWeighed s held author moment command LogsOut = (reply_to s held author command ≡ LoggedOut) × (command ≡ Logout)
 
 -- A change was accepted but for its author: a steward's is kept.
 abbrev pub IsRuled : Site → Option ℕ → Record → Judged → Type 0
@@ -81,4 +81,4 @@ IsJudged h act moment (Kept x reply) =
     × CanAdd (site_of h).certs (site_of h).posts x
 IsJudged h act moment (LogsIn account token) =
     (judge h act ≡ LoggedIn account) × (token_of act.command ≡ Some token) × (who (live h) token ≡ None)
-IsJudged h act moment LogsOut = judge h act ≡ LoggedOut
+IsJudged h act moment LogsOut = (judge h act ≡ LoggedOut) × (act.command ≡ Logout)
