@@ -1,5 +1,0 @@
-use Rattle.book_cases.proofs.Accepting.{where_name_free}
-use Rattle.book_cases.proofs.posts.may_open.Goals as goal
-
-pub returns : goal.returns
-returns c = where_name_free c.args.postings.now.posts c.args.name.now c.args.text.now _ c.judge_project.ensures
