@@ -84,6 +84,8 @@ FORMS = {
     "/seed": ([("subject", text)], named("Seed", "subject")),
     "/unseed": ([("subject", text)], named("Unseed", "subject")),
 }
+STATUSES = {"NotImplemented": 501, "NotFound": 404, "BadForm": 400}
+FOR_ALL = ("/join", "/login")
 
 
 def page(path):
@@ -98,7 +100,8 @@ def page(path):
 
 def form(body):
     fields = {}
-    for name, value in parse_qsl(body.decode("latin-1"), keep_blank_values=True, encoding="utf-8", errors="replace"):
+    written = "".join(chr(byte) if byte < 0x80 else f"%{byte:02X}" for byte in body)
+    for name, value in parse_qsl(written, keep_blank_values=True, encoding="utf-8", errors="replace"):
         fields.setdefault(name, value)
     return fields
 
@@ -173,10 +176,13 @@ def asked(came):
         route = page(path)
     else:
         route = action(path, came[end : end + length]) if method == "POST" else "NotImplemented"
+    by = session(values("cookie"))
+    status = STATUSES.get(route) or (403 if method == "POST" and path not in FOR_ALL and not by else None)
+    refused = f", refused with {status}" if status else ""
     bare = ", without the body of the answer" if method == "HEAD" else ""
     words = [word.strip(" ").lower() for value in values("connection") for word in value.split(",")]
     close = ", then close" if minor == 0 or "close" in words else ""
-    return f"{end + length} bytes: {route}{session(values('cookie'))}{bare}{close}"
+    return f"{end + length} bytes: {route}{by}{refused}{bare}{close}"
 
 
 def first_answer(came):
