@@ -3,5 +3,6 @@
 
 mod book;
 mod sizes;
+mod viewing;
 
 pub use book::Book;

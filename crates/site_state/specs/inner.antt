@@ -1,2 +1,3 @@
 pub mod Parts
+pub mod Seeds
 pub mod States

@@ -4,6 +4,7 @@
 mod judged;
 mod parts;
 mod state;
+mod viewing;
 mod weighing;
 
 pub use judged::Judged;
