@@ -2,9 +2,11 @@
 #![tactic(auto)]
 
 mod judged;
+mod opening;
 mod parts;
 mod state;
 mod weighing;
 
 pub use judged::Judged;
+pub use opening::RecordFault;
 pub use state::State;
