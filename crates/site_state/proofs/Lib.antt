@@ -7,3 +7,10 @@ pub mod Publishing
 pub mod Stating
 pub mod ActsJudged
 pub mod Holding
+pub mod WellKept
+pub mod ChangesJudged
+pub mod RecordsJudged
+pub mod StateOpened
+pub mod Steps
+pub mod Accepted
+pub mod KeptWell

@@ -1,3 +1,4 @@
+pub mod Opened
 pub mod States
 pub mod Weighed
 pub mod inner

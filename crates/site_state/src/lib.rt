@@ -2,10 +2,12 @@
 #![tactic(auto)]
 
 mod judged;
+mod opening;
 mod parts;
 mod state;
 mod viewing;
 mod weighing;
 
 pub use judged::Judged;
+pub use opening::RecordFault;
 pub use state::State;

@@ -1,7 +1,7 @@
 //! The state of a site.
 
-ghost use Rattle.std.specs.Prelude.{◌≡◌, ◌≢◌, ◌↔◌, ◌<◌, ◌≤◌, ◌+◌, ◌*◌, [], Some, None, true, IfOk, IfSome, OnOk, OnErr, IsSome, IsTrue, MatchOption, length, slice_get};
-ghost use Rattle.trust_types.specs.Kept.{IsMoment, accounts, revision};
+ghost use Rattle.std.specs.Prelude.{◌≡◌, ◌≢◌, ◌↔◌, ◌<◌, ◌≤◌, ◌+◌, ◌*◌, [], Some, None, true, IfOk, IfErr, IfSome, OnOk, OnErr, IsSome, IsTrue, MatchOption, length, slice_get};
+ghost use Rattle.trust_types.specs.Kept.{IsMoment, accounts, moment_of, revision};
 ghost use Rattle.trust_types.specs.NameLists.{number_of};
 ghost use Rattle.trust_types.specs.Tables.{has_grade};
 ghost use Rattle.trust_types.specs.declared.levels.Level.{Level as Grade};
@@ -13,15 +13,17 @@ ghost use Rattle.site_history.specs.Live.{live};
 ghost use Rattle.site_history.specs.Answers.{is_refusal};
 ghost use Rattle.cert_book.specs.Books.{IsAccount};
 ghost use Rattle.site_history.specs.Held.{level_of};
-ghost use Rattle.site_history.specs.Histories.{Published, last_revision, just_opened, with_entry, places, records, publications, last_published, graph_records, is_kept, record_of, author_of, published_of, Done, Freeze, Publish, KeeperFault};
+ghost use Rattle.site_history.specs.Histories.{Published, last_revision, just_opened, with_opened, with_entry, places, records, publications, last_published, graph_records, is_kept, record_of, author_of, published_of, Done, Freeze, Publish, KeeperFault};
 ghost use Rattle.site_history.specs.Legal.{IsLegal, StandsFor, IsFrozenOf, Suits, IsNewer};
 ghost use Rattle.site_history.specs.Replies.{judge, number_in};
 ghost use Rattle.site_history.specs.Sites.{site_of};
 ghost use Rattle.site_history.specs.Texts.{texts, texts_in};
+ghost use Rattle.site_state.specs.Opened.{RefusesRecord};
 ghost use Rattle.site_state.specs.Weighed.{IsJudged, IsWeighed, is_given, token_of, author_token};
 ghost use Rattle.site_state.specs.inner.Parts.{CanAdd};
 
 use crate::judged::Judged;
+use crate::opening::{RecordFault, texts_in_record};
 use crate::parts::Parts;
 use frozen::Frozen;
 use roster_form::{Candidate, Publication};
@@ -201,6 +203,38 @@ impl State {
         self.room = None;
         self.parts.reserve(entry, steps)?;
         self.room = Some(Snapshot::of(entry));
+        Ok(())
+    }
+
+    /// Opens the site with one record more, to which nothing happened yet. Whether its author might post it isn't asked again, and nobody is logged
+    /// in by it.
+    ///
+    /// # Errors
+    /// The first that applies: [`RecordFault::Bad`] exactly where the record doesn't continue those before it, [`RecordFault::Full`] exactly where
+    /// it passes a limit on accounts, certificates, one text or all texts, [`RecordFault::NoMemory`]. The history is then as it was.
+    pub fn open_with<L: Ledger>(
+        &mut self,
+        entry: Record,
+        steps: &mut Steps<L>,
+    ) -> Result<(), RecordFault>
+        requires begun { self.old.history.entries ≡ [] }
+        requires moment { IsMoment (moment_of entry) }
+        requires places { places self.old.history < 4_000_000 }
+        ensures ok { OnOk result (self.new.history ≡ with_opened self.old.history entry) }
+        ensures refused { IfErr result (RefusesRecord self.old.history.opening self.old.history.opened entry) }
+        ensures same { OnErr result (self.new.history ≡ self.old.history) }
+    {
+        self.parts.judge_record(&entry)?;
+        let bytes = texts_in_record(&entry);
+        if bytes > 536_870_912 - self.texts {
+            return Err(RecordFault::Full);
+        }
+        self.room = None;
+        self.parts.reserve(&entry, steps)?;
+        self.past = Past::opened(&self.past, &entry);
+        self.places += 1;
+        self.texts += bytes;
+        self.parts.add(entry, steps);
         Ok(())
     }
 
