@@ -41,10 +41,10 @@ use trust_types::{AccountNo, Caps, Level, Name, Record, Steps};
 /// Each act has the one reply that the history gives it. An accepted record is kept before it counts. The history is legal at all times.
 #[derive(Drop)]
 pub struct Book<K: Keeper> {
-    state: State,
-    found: Snapshot<K>,
-    keeper: K,
-    alloc: Global,
+    pub(crate) state: State,
+    pub(crate) found: Snapshot<K>,
+    pub(crate) keeper: K,
+    pub(crate) alloc: Global,
 }
 
 impl<K: Keeper> Model for Book<K> {

@@ -2,6 +2,10 @@
 #![tactic(auto)]
 
 mod book;
+mod laws;
+mod opening;
 mod sizes;
 
 pub use book::Book;
+pub use laws::{kept_rows_open, open_rows_pass, rows_open_once};
+pub use opening::{OpenFault, Unopened};
