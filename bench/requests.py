@@ -3,10 +3,11 @@
 
     bench/requests.py [RUNS]
 
-A thousand requests of a kind are read a thousand times each by the program of the crate `request_cases`. The processor time of a run, divided by a
-million, is shown in microseconds a request. The aim is at most 5 for a head of ten fields. Then a thousand heads, or bodies, of a length come byte
-by byte. The time is shown in nanoseconds a byte: it grows with the length where the cost isn't linear. Nothing depends on these numbers. The program
-is built first where it has to be. It runs so many times (5 where none is named), and the least time is shown.
+A thousand requests of a kind are read a thousand times each by the program of the crate `request_cases`, which keeps a `Progress`. The
+processor time of a run, divided by a million, is shown in microseconds a request. The aim is at most 5 for a head of ten fields. Then a
+thousand heads, or bodies, of a length come byte by byte. The time is shown in nanoseconds a byte: it grows with the length where the cost
+isn't linear. Nothing depends on these numbers. The program is built first where it has to be. It runs so many times (5 where none is
+named), and the least time is shown.
 """
 
 import subprocess

@@ -6,10 +6,20 @@
 //! the same order, the same searches and ways, a step where the crates have one. It proves nothing, and nothing depends on it. For each site text
 //! and each of the levels Apprentice, Journeyer and Master it prints a line: accounts served; phases and the layer of the last one; the steps of
 //! the solve, the bound, and their part of it; then the looks of the engine that searches anew and how many times those of the phases (what is
-//! read in the end left aside) they are; and both engines' milliseconds.
+//! read in the end left aside) they are; and both engines' milliseconds of the processor. Then a line with the milliseconds of the three solves in phases, what is
+//! read in the end included.
 
 use std::collections::HashMap;
-use std::time::Instant;
+use std::ffi::c_long;
+
+unsafe extern "C" {
+    fn clock() -> c_long;
+}
+
+/// The milliseconds of the processor that this program has taken, as C's `clock` tells them.
+fn processor_time() -> f64 {
+    unsafe { clock() as f64 / 1000.0 }
+}
 
 /// A site, its certificates in rows by giver.
 struct Site {
@@ -145,6 +155,23 @@ impl Network {
     fn push(&mut self, arc: u32) {
         self.rests[arc as usize] -= 1;
         self.rests[self.arcs[arc as usize].twin as usize] += 1;
+    }
+
+    /// Reads the units along edges off the arcs that lead back out of first halves, and whom the flow serves.
+    fn read(&mut self, units: &mut [u32], served: &mut [bool]) {
+        units.fill(0);
+        self.looks += units.len() as u64;
+        for account in 0..served.len() {
+            let node = 2 * account + 3;
+            for arc in self.first[node] + 2..self.first[node + 1] {
+                if self.rests[arc as usize] > 0 {
+                    units[self.arcs[arc as usize].twin as usize] = self.rests[arc as usize];
+                }
+            }
+        }
+        for account in 0..served.len() {
+            served[account] = !self.look(self.first[2 * account + 3] + 1).0;
+        }
     }
 
     /// The arc from a node to the supersink, if a unit can be moved along it.
@@ -305,6 +332,9 @@ fn anew(network: &mut Network) -> u64 {
 fn main() {
     for path in std::env::args().skip(1) {
         let site = Site::read(&std::fs::read_to_string(&path).unwrap());
+        let mut solves = 0.0;
+        let mut units = vec![];
+        let mut is_served = vec![true; site.seeds.len()];
         for (level, name) in [(1, "Apprentice"), (2, "Journeyer"), (3, "Master")] {
             let capacities = site.capacities(level);
             let loaded = Network::load(&site, level, &capacities);
@@ -313,16 +343,20 @@ fn main() {
             let all = u64::from(site.caps[0]) + 2 * capacities.iter().map(|cap| u64::from(*cap)).sum::<u64>();
 
             let mut network = loaded.clone();
-            let begun = Instant::now();
+            units.resize(network.arcs.len(), 1);
+            let begun = processor_time();
             let (served, phases, deepest) = in_phases(&mut network);
-            let time = begun.elapsed();
-            // what is read in the end: each arc, and each account's arc to the supersink
-            let steps = network.looks + arcs + accounts;
+            let time = processor_time() - begun;
+            let looks = network.looks;
+            network.read(&mut units, &mut is_served);
+            solves += processor_time() - begun;
+            let steps = network.looks;
+            assert_eq!(is_served.iter().filter(|is| **is).count() as u64, served);
 
             let mut searched = loaded;
-            let begun = Instant::now();
+            let begun = processor_time();
             assert_eq!(anew(&mut searched), served);
-            let time_anew = begun.elapsed();
+            let time_anew = processor_time() - begun;
 
             let few = (1..=2000).map(|d| d + all / d + 1).min().unwrap().min(served + 1);
             let bound = 3 * arcs * (few + 1) + served * (2 * accounts + 4);
@@ -330,11 +364,12 @@ fn main() {
                 "  {name:<10} served {served:>5}  phases {phases:>3} to layer {deepest:>3}  steps {steps:>9} of {bound:>14} ({:.4})  anew {:>11} looks, {:>8.1} times  {:>7.1} ms, anew {:>7.1} ms, {:>6.1} times",
                 steps as f64 / bound as f64,
                 searched.looks,
-                searched.looks as f64 / network.looks as f64,
-                time.as_secs_f64() * 1000.0,
-                time_anew.as_secs_f64() * 1000.0,
-                time_anew.as_secs_f64() / time.as_secs_f64(),
+                searched.looks as f64 / looks as f64,
+                time,
+                time_anew,
+                time_anew / time,
             );
         }
+        println!("  three solves in phases {solves:.1} ms");
     }
 }

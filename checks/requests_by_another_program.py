@@ -1,12 +1,16 @@
 #!/usr/bin/env python3
 """Reads the requests of crates/request_cases by a reader of its own, and compares with the stored output.
 
-    checks/requests_by_another_program.py
+    checks/requests_by_another_program.py [COUNT]
 
-A head is one where it matches a regular expression from end to end. Forms are read by urllib.
+A head is one where it matches a regular expression from end to end. Forms are read by urllib. Then so many of these requests (10,000 where
+none is named), each with one to three bytes dropped or put in at random, are read by the program that was built, at once and byte by byte,
+and its answers compared. It ends with status 1 where they differ.
 """
 
+import random
 import re
+import subprocess
 import sys
 from pathlib import Path
 from urllib.parse import parse_qsl
@@ -20,6 +24,8 @@ HEAD = re.compile(
     rb"(?:\r?\n)*(" + TOKEN + rb") ([\x21-\x7e\x80-\xff]+) HTTP/1\.([01])\r?\n((?:" + FIELD.pattern + rb")*)\r?\n"
 )
 MARKS = {b"r": b"\r", b"n": b"\n", b"f": b"\xff"}
+PUT_IN = b"\r\n\xff :;,=&?/%+ax"
+ESCAPES = {byte: f"\\u{{{byte:x}}}" for byte in (*range(32), 127)} | {0: "\\0", 9: "\\t", 10: "\\n", 13: "\\r", 34: '\\"', 92: "\\\\"}
 
 
 def bytes_of(line):
@@ -43,7 +49,8 @@ def head_end(came):
 
 
 def text(word):
-    return f'Text {{ text: "{word}" }}'
+    """As a derived `Debug` writes it."""
+    return f'Text {{ text: "{word.translate(ESCAPES)}" }}'
 
 
 def table(levels, entries):
@@ -84,6 +91,8 @@ FORMS = {
     "/seed": ([("subject", text)], named("Seed", "subject")),
     "/unseed": ([("subject", text)], named("Unseed", "subject")),
 }
+STATUSES = {"NotImplemented": 501, "NotFound": 404, "BadForm": 400}
+FOR_ALL = ("/join", "/login")
 
 
 def page(path):
@@ -98,7 +107,8 @@ def page(path):
 
 def form(body):
     fields = {}
-    for name, value in parse_qsl(body.decode("latin-1"), keep_blank_values=True, encoding="utf-8", errors="replace"):
+    written = "".join(chr(byte) if byte < 0x80 else f"%{byte:02X}" for byte in body)
+    for name, value in parse_qsl(written, keep_blank_values=True, encoding="utf-8", errors="replace"):
         fields.setdefault(name, value)
     return fields
 
@@ -173,10 +183,13 @@ def asked(came):
         route = page(path)
     else:
         route = action(path, came[end : end + length]) if method == "POST" else "NotImplemented"
+    by = session(values("cookie"))
+    status = STATUSES.get(route) or (403 if method == "POST" and path not in FOR_ALL and not by else None)
+    refused = f", refused with {status}" if status else ""
     bare = ", without the body of the answer" if method == "HEAD" else ""
     words = [word.strip(" ").lower() for value in values("connection") for word in value.split(",")]
     close = ", then close" if minor == 0 or "close" in words else ""
-    return f"{end + length} bytes: {route}{session(values('cookie'))}{bare}{close}"
+    return f"{end + length} bytes: {route}{by}{refused}{bare}{close}"
 
 
 def first_answer(came):
@@ -204,18 +217,45 @@ def expected(block):
             yield "    " + asked(came)
 
 
+def changed(came):
+    """The bytes with some dropped or put in, as a line of the cases; `None` where no line writes them."""
+    came = bytearray(came)
+    for _ in range(random.randint(1, 3)):
+        place = random.randrange(len(came) + 1)
+        came[place : place + random.randint(0, 1)] = [random.choice(PUT_IN)][: random.randint(0, 1)]
+    try:
+        line = bytes(came).replace(b"\\", b"\\\\").replace(b"\r", b"\\r").replace(b"\n", b"\\n").replace(b"\xff", b"\\f").decode()
+    except UnicodeDecodeError:
+        return None
+    return line or None
+
+
+def differs(block, answer):
+    """Whether a block isn't answered as expected. The first line that differs is shown."""
+    for want, got in zip([*expected(block), None], [*answer.split("\n"), None]):
+        if want != got:
+            print(f"{block.splitlines()[0]}\n    wanted {want}\n    found  {got}")
+            return True
+    return False
+
+
+def blocks_of(stored):
+    return stored.strip("\n").split("\n\n")
+
+
 def main():
-    cases = (CASES / "stdin").read_text(encoding="utf-8").strip("\n").split("\n\n")
-    found = (CASES / "stdout").read_text(encoding="utf-8").strip("\n").split("\n\n")
-    ok = len(cases) == len(found)
-    for case, block in zip(cases, found):
-        for want, got in zip(list(expected(case)) + [None], block.splitlines() + [None]):
-            if want != got:
-                print(f"{case.splitlines()[0]}\n    wanted {want}\n    found  {got}")
-                ok = False
-                break
-    print(f"{len(cases)} blocks, {'all as expected' if ok else 'not all as expected'}")
-    sys.exit(not ok)
+    count = int(sys.argv[1]) if len(sys.argv) > 1 else 10_000
+    cases = blocks_of((CASES / "stdin").read_text(encoding="utf-8"))
+    found = blocks_of((CASES / "stdout").read_text(encoding="utf-8"))
+    wrong = sum(map(differs, cases, found)) + abs(len(cases) - len(found))
+    print(f"{len(cases)} blocks, {wrong} not as expected")
+    short = [line for case in cases for line in case.splitlines()[1:] if len(bytes_of(line)) < 1_000]
+    lines = [line for line in (changed(bytes_of(random.choice(short))) for _ in range(count)) if line]
+    blocks = [f"{heading}\n" + "\n".join(lines) for heading in ("at once", "byte by byte: the same")]
+    run = subprocess.run([CASES / "out" / "request_cases"], input="\n\n".join([*blocks, ""]).encode(), capture_output=True, check=True)
+    wrong_at_random = sum(map(differs, blocks, blocks_of(run.stdout.decode())))
+    print(f"{len(lines)} changed requests, read at once and byte by byte: {'not all' if wrong_at_random else 'all'} as expected")
+    sys.exit(bool(wrong or wrong_at_random))
 
 
 if __name__ == "__main__":

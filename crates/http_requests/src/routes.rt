@@ -35,3 +35,38 @@ pub enum Route {
     /// A field of the form is missing, or isn't of its form.
     BadForm,
 }
+
+impl Route {
+    ghost use Rattle.std.specs.Prelude.{◌≡◌};
+    ghost use Rattle.http_requests.specs.Refusals.{needs_session, unmet};
+
+    /// Whether only a session may ask for it.
+    pub fn needs_session(&self) -> bool
+        ensures { result ≡ needs_session self.now }
+    {
+        matches!(
+            self,
+            Route::Logout
+                | Route::Cert { .. }
+                | Route::Diary { .. }
+                | Route::Article { .. }
+                | Route::Reply { .. }
+                | Route::Project { .. }
+                | Route::Seed { .. }
+                | Route::Unseed { .. }
+                | Route::Table { .. }
+        )
+    }
+
+    /// The status of what asks for nothing: 501, 404 or 400.
+    pub(crate) fn unmet(&self) -> Option<u16>
+        ensures { result ≡ unmet self.now }
+    {
+        match self {
+            Route::NotImplemented => Some(501),
+            Route::NotFound => Some(404),
+            Route::BadForm => Some(400),
+            _ => None,
+        }
+    }
+}

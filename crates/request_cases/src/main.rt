@@ -105,6 +105,9 @@ fn write_request(
         let token = token.0;
         out.write_all(format!(in alloc; ", by {name} with {token:?}")?.as_bytes())?;
     }
+    if let Some(status) = request.refusal() {
+        out.write_all(format!(in alloc; ", refused with {status}")?.as_bytes())?;
+    }
     if request.bare {
         out.write_all(b", without the body of the answer")?;
     }

@@ -8,4 +8,5 @@ pub mod Replies
 pub mod Legal
 pub mod Views
 pub mod Answers
+pub mod Words
 pub mod inner

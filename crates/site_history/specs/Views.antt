@@ -1,33 +1,26 @@
 -- What is shown of a site: of its records, and of the levels that its accounts hold.
-use Rattle.std.specs.Prelude.{ℕ, List, [], ◌∷◌, ◌+◌, Option, Some, None, length, map, take, filter, find, slice_get, slice_index_or}
-use Rattle.std.specs.List.{range_with_len}
+use Rattle.std.specs.Prelude.{ℕ, List, [], ◌∷◌, Option, Some, None, length, map, take, filter, find, slice_get, slice_index_or, if◌then◌else◌}
+use Rattle.std.specs.List.{range_with_len, enumerate_from}
 use mathlib.Core.List.{reverse}
 use Rattle.trust_types.specs.declared.levels.Level.{Level}
 use Rattle.trust_types.specs.declared.records.Record.{Record}
 use Rattle.trust_types.specs.declared.records.Record.TheVariants as kept
-use Rattle.trust_types.specs.Kept.{accounts, changes, is_seed, table_in_force}
+use Rattle.trust_types.specs.Names.{is_name}
 use Rattle.trust_types.specs.NameLists.{number_of}
 use Rattle.trust_types.specs.Tables as tables
-use Rattle.cert_book.specs.Books.{book_of, given, taken}
+use Rattle.cert_book.specs.Books.{accounts, given, taken}
 use Rattle.postings.specs.Posts.{diary_of, articles, replies_to, is_project_named}
 use Rattle.site_history.specs.declared.queries.Query.{Query}
 use Rattle.site_history.specs.declared.queries.Query.TheVariants as asked
-use Rattle.site_history.specs.Histories.{History, records}
+use Rattle.site_history.specs.declared.views.ArticleHead.{ArticleHead}
+use Rattle.site_history.specs.declared.views.PostView.{PostView}
+use Rattle.site_history.specs.declared.views.View.{View}
+use Rattle.site_history.specs.declared.views.View.TheVariants as views
+use Rattle.site_history.specs.Histories.{History}
 use Rattle.site_history.specs.Held.{level_of}
-use Rattle.site_history.specs.Sites.{posts_of}
+use Rattle.site_history.specs.Sites.{Site, site_of}
 
--- An article without its text, and a post.
-pub record Head : Type 0 where
-  pub no : ℕ
-  pub title : List ℕ
-  pub author : List ℕ
-
-pub record Post : Type 0 where
-  pub author : List ℕ
-  pub moment : ℕ
-  pub text : List ℕ
-
--- An account's certificates are shown by the name of the other account, with their level.
+-- An account: the level that it holds, and its certificates by the name of the other account.
 pub record Person : Type 0 where
   pub name : List ℕ
   pub level : Level
@@ -37,86 +30,105 @@ pub record Person : Type 0 where
 pub record Article : Type 0 where
   pub no : ℕ
   pub title : List ℕ
-  pub post : Post
-  pub replies : List Post
+  pub post : PostView
+  pub replies : List PostView
 
 pub data Shown : Type 0 where
-  Front : List Head → Shown
+  Front : List ArticleHead → Shown
   OfPerson : Person → Shown
-  OfDiary : List ℕ → List Post → Shown
+  OfDiary : List ℕ → List PostView → Shown
   OfArticle : Article → Shown
-  OfProject : List ℕ → Post → Shown
+  OfProject : List ℕ → PostView → Shown
   OfStewards : tables.Table → List (List ℕ) → Shown
   Missing : Shown
 
--- How much is shown: of what is new the newest 20, of what is listed the first 200.
+-- What a view says: its lists by their items, and all else by its value.
+abbrev pub said : View → Shown
+said (views.Front heads) = Front heads.items
+said (views.Person p) = OfPerson (record { name = p.name; level = p.level; given = p.given.items; taken = p.taken.items })
+said (views.Diary d) = OfDiary d.name d.posts.items
+said (views.Article a) = OfArticle (record { no = a.no; title = a.title; post = a.post; replies = a.replies.items })
+said (views.Project p) = OfProject p.name p.post
+said (views.Stewards s) = OfStewards s.caps s.seeds.items
+said views.Missing = Missing
+
+-- How much is shown: of what is new the newest 20, newest first; of what is listed the first 200.
 abbrev pub newest : {A : Type 0} → List A → List A
 newest xs = take 20 (reverse xs)
 
 abbrev pub first_ones : {A : Type 0} → List A → List A
 first_ones xs = take 200 xs
 
-abbrev pub name_of : List Record → ℕ → List ℕ
-name_of k account = slice_index_or (accounts k) account []
+abbrev pub name_of : Site → ℕ → List ℕ
+name_of s account = slice_index_or s.certs.names account []
 
 -- A record as a post. One that is none isn't asked for.
-abbrev pub post_of : List Record → Record → Post
-post_of k (kept.Diary moment author text) = record { author = name_of k author; moment = moment; text = text }
-post_of k (kept.Article moment author title text) = record { author = name_of k author; moment = moment; text = text }
-post_of k (kept.Reply moment author article text) = record { author = name_of k author; moment = moment; text = text }
-post_of k (kept.Project moment author name text) = record { author = name_of k author; moment = moment; text = text }
-post_of k _ = record { author = []; moment = 0; text = [] }
+abbrev pub post_of : Site → Record → PostView
+post_of s (kept.Diary moment author text) = record { author = name_of s author; moment = moment; text = text }
+post_of s (kept.Article moment author title text) = record { author = name_of s author; moment = moment; text = text }
+post_of s (kept.Reply moment author article text) = record { author = name_of s author; moment = moment; text = text }
+post_of s (kept.Project moment author name text) = record { author = name_of s author; moment = moment; text = text }
+post_of s _ = record { author = []; moment = 0; text = [] }
 
 abbrev pub title_of : Record → List ℕ
 title_of (kept.Article moment author title text) = title
 title_of _ = []
 
--- The heads of articles, the first of which has this number.
-abbrev pub heads : List Record → ℕ → List Record → List Head
-heads k n [] = []
-heads k n (x ∷ xs) = record { no = n; title = title_of x; author = (post_of k x).author } ∷ heads k (n + 1) xs
+-- The newest articles, by number, without their texts.
+abbrev pub head_of : Site → ℕ × Record → ArticleHead
+head_of s (n, x) = record { no = n; title = title_of x; author = (post_of s x).author }
 
-abbrev pub given_by : tables.Table → List Record → ℕ → List (List ℕ × Level)
-given_by opening k account = map (λ c. (name_of k c.to, c.level)) (first_ones (given (book_of opening (changes k)) account))
+abbrev pub front_of : Site → List ArticleHead
+front_of s = map (head_of s) (newest (enumerate_from 0 (articles s.posts)))
 
-abbrev pub taken_by : tables.Table → List Record → ℕ → List (List ℕ × Level)
-taken_by opening k account = map (λ c. (name_of k c.from, c.level)) (first_ones (taken (book_of opening (changes k)) account))
+-- The first certificates of an account for others, and of others for it, by account number.
+abbrev pub given_by : Site → ℕ → List (List ℕ × Level)
+given_by s account = map (λ c. (name_of s c.to, c.level)) (first_ones (given s.certs account))
 
-abbrev pub person_shown : History → List ℕ → Option ℕ → Shown
-person_shown h name None = Missing
-person_shown h name (Some a) = OfPerson (record {
-  name = name;
-  level = level_of h a;
-  given = given_by h.opening (records h) a;
-  taken = taken_by h.opening (records h) a;
-})
+abbrev pub taken_by : Site → ℕ → List (List ℕ × Level)
+taken_by s account = map (λ c. (name_of s c.from, c.level)) (first_ones (taken s.certs account))
 
-abbrev pub diary_shown : List Record → List ℕ → Option ℕ → Shown
-diary_shown k name None = Missing
-diary_shown k name (Some a) = OfDiary name (map (post_of k) (newest (diary_of (posts_of k) a)))
+-- The newest entries of an account's diary, and the first replies to an article.
+abbrev pub entries_of : Site → ℕ → List PostView
+entries_of s account = map (post_of s) (newest (diary_of s.posts account))
 
-abbrev pub article_shown : List Record → ℕ → Option Record → Shown
-article_shown k n None = Missing
-article_shown k n (Some x) = OfArticle (record {
-  no = n;
-  title = title_of x;
-  post = post_of k x;
-  replies = map (post_of k) (first_ones (replies_to (posts_of k) n));
-})
-
-abbrev pub project_shown : List Record → List ℕ → Option Record → Shown
-project_shown k name None = Missing
-project_shown k name (Some x) = OfProject name (post_of k x)
+abbrev pub replies_shown : Site → ℕ → List PostView
+replies_shown s n = map (post_of s) (first_ones (replies_to s.posts n))
 
 -- The names of the first seeds, by account number.
-abbrev pub seeds_shown : List Record → List (List ℕ)
-seeds_shown k = map (name_of k) (first_ones (filter (is_seed k) (range_with_len 0 (length (accounts k)))))
+abbrev pub seeds_shown : Site → List (List ℕ)
+seeds_shown s = map (name_of s) (first_ones (filter s.certs.is_seed (accounts s.certs)))
+
+-- What is shown where nothing has the name or number, and else of the account, article or project that has it.
+abbrev pub person_shown : Site → (ℕ → Level) → List ℕ → Option ℕ → Shown
+person_shown s held name None = Missing
+person_shown s held name (Some a) = OfPerson (record { name = name; level = held a; given = given_by s a; taken = taken_by s a })
+
+abbrev pub diary_shown : Site → List ℕ → Option ℕ → Shown
+diary_shown s name None = Missing
+diary_shown s name (Some a) = OfDiary name (entries_of s a)
+
+abbrev pub article_shown : Site → ℕ → Option Record → Shown
+article_shown s n None = Missing
+article_shown s n (Some x) = OfArticle (record { no = n; title = title_of x; post = post_of s x; replies = replies_shown s n })
+
+abbrev pub project_shown : Site → List ℕ → Option Record → Shown
+project_shown s name None = Missing
+project_shown s name (Some x) = OfProject name (post_of s x)
+
+-- The project of that name. A word that is no name is none's.
+abbrev pub project_named : Site → List ℕ → Option Record
+project_named s word = if is_name word then find (is_project_named word) s.posts else None
+
+-- What a query shows of a site whose accounts hold these levels.
+abbrev pub shown_of : Site → (ℕ → Level) → Query → Shown
+shown_of s held asked.Front = Front (front_of s)
+shown_of s held (asked.Person name) = person_shown s held name (number_of s.certs.names name)
+shown_of s held (asked.Diary name) = diary_shown s name (number_of s.certs.names name)
+shown_of s held (asked.Article n) = article_shown s n (slice_get (articles s.posts) n)
+shown_of s held (asked.Project name) = project_shown s name (project_named s name)
+shown_of s held asked.Stewards = OfStewards s.certs.table (seeds_shown s)
 
 -- What a query shows.
 unfoldable pub shown : History → Query → Shown
-shown h asked.Front = Front (newest (heads (records h) 0 (articles (posts_of (records h)))))
-shown h (asked.Person name) = person_shown h name (number_of (accounts (records h)) name)
-shown h (asked.Diary name) = diary_shown (records h) name (number_of (accounts (records h)) name)
-shown h (asked.Article n) = article_shown (records h) n (slice_get (articles (posts_of (records h))) n)
-shown h (asked.Project name) = project_shown (records h) name (find (is_project_named name) (posts_of (records h)))
-shown h asked.Stewards = OfStewards (table_in_force h.opening (records h)) (seeds_shown (records h))
+shown h query = shown_of (site_of h) (level_of h) query

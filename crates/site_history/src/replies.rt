@@ -1,4 +1,8 @@
+ghost use Rattle.std.specs.Prelude.{◌≡◌, Some};
+ghost use Rattle.site_history.specs.Words.{kind_word, phrase, refusal_words, reply_words};
+
 use posting_policy::PostKind;
+use std::fmt;
 use trust_types::{AccountNo, Level};
 
 /// What a site answers to an act. All but the first five and `Fault` refuse it, and then nothing is changed.
@@ -71,3 +75,78 @@ pub enum Refusal {
 
 /// A reply, or a refusal.
 pub type Answer = Result<Reply, Refusal>;
+
+/// The word of a kind of post.
+fn kind_word(kind: PostKind) -> &'static str
+    ensures { result.now ≡ kind_word kind }
+{
+    match kind {
+        PostKind::Diary => "diary",
+        PostKind::Reply => "reply",
+        PostKind::Project => "project",
+        PostKind::Article => "article",
+    }
+}
+
+/// The words of a reply that carries nothing. One that carries a number or a level has words of its own.
+fn phrase(reply: Reply) -> &'static str
+    ensures { result.now ≡ phrase reply }
+{
+    match reply {
+        Reply::LoggedOut => "logged out",
+        Reply::NoSession => "no session",
+        Reply::NoSuchAuthor => "no such author",
+        Reply::BadName => "bad name",
+        Reply::AccountsFull => "accounts full",
+        Reply::NoSuchAccount => "no such account",
+        Reply::SelfCert => "self cert",
+        Reply::Same => "same",
+        Reply::CertsFull => "certificates full",
+        Reply::NotSeed => "not a seed",
+        Reply::LastSeed => "last seed",
+        Reply::NoSuchArticle => "no such article",
+        Reply::WrongPassword => "wrong password",
+        Reply::TokenTaken => "token taken",
+        Reply::SessionsFull => "sessions full",
+        Reply::NotSteward => "not a steward",
+        Reply::Fault => "keeper fault",
+        _ => "",
+    }
+}
+
+impl fmt::Display for Reply {
+    ghost output = { λ reply. Some (reply_words reply) };
+
+    fn fmt<W: fmt::Write>(&self, f: &mut fmt::Formatter<W>) -> fmt::Result {
+        match *self {
+            Reply::Joined(AccountNo(number)) => write!(f, "joined {number}"),
+            Reply::Revised(revision) => write!(f, "revision {revision}"),
+            Reply::Posted(kind, number) => {
+                let kind = kind_word(kind);
+                write!(f, "posted {kind} {number}")
+            }
+            Reply::LoggedIn(AccountNo(number)) => write!(f, "logged in {number}"),
+            Reply::NameTaken(number) => write!(f, "name taken {number}"),
+            Reply::NoSuchLevel(levels) => write!(f, "no such level {levels}"),
+            Reply::LevelsFall(levels) => write!(f, "levels fall {levels}"),
+            Reply::LongText(length) => write!(f, "long text {length}"),
+            Reply::Denied(held, needed) => write!(f, "denied {held} needs {needed}"),
+            reply => {
+                let words = phrase(reply);
+                write!(f, "{words}")
+            }
+        }
+    }
+}
+
+impl fmt::Display for Refusal {
+    ghost output = { λ refusal. Some (refusal_words refusal) };
+
+    fn fmt<W: fmt::Write>(&self, f: &mut fmt::Formatter<W>) -> fmt::Result {
+        match *self {
+            Refusal::HistoryFull => write!(f, "history full"),
+            Refusal::TextFull(bytes) => write!(f, "text full {bytes}"),
+            Refusal::NoMemory => write!(f, "out of memory"),
+        }
+    }
+}

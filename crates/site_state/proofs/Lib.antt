@@ -1,4 +1,8 @@
 pub mod Adding
+pub mod Posting
+pub mod Listing
+pub mod Seeding
+pub mod Showing
 pub mod Publishing
 pub mod Stating
 pub mod ActsJudged

@@ -169,6 +169,7 @@ lived opening k live live' old new are same is =
         live = is i;
       };
       graph = ap (λ v. v.items) same.graph ∙ are.graph;
+      authors = are.authors;
     }
 
 -- a state with an act more that adds no record but changes the sessions

@@ -1,3 +1,4 @@
 pub mod Opening
 pub mod Parts
+pub mod Seeds
 pub mod States

@@ -5,6 +5,7 @@ mod judged;
 mod opening;
 mod parts;
 mod state;
+mod viewing;
 mod weighing;
 
 pub use judged::Judged;

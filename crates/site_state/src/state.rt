@@ -42,7 +42,7 @@ use trust_types::{AccountNo, Caps, Level, Name, NoMemory, Record, Steps};
 /// The history itself takes no memory, however long it is.
 #[derive(Drop)]
 pub struct State {
-    parts: Parts,
+    pub(crate) parts: Parts,
     places: u64,
     texts: u64,
     published: u32,

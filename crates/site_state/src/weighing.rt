@@ -67,7 +67,7 @@ impl Parts {
     }
 
     /// The account of that name.
-    fn number_of(&self, word: &Text) -> Option<AccountNo>
+    pub(crate) fn number_of(&self, word: &Text) -> Option<AccountNo>
         ensures number { result ≡ number_of (book self.now.certs).names word.now }
         ensures account { IfSome result (IsAccount (book self.now.certs)) }
     {
@@ -235,6 +235,7 @@ impl Parts {
         text: Text,
         moment: u64,
     ) -> Judged
+        requires { IsAccount (book self.now.certs) author }
         ensures { IsWeighed (site_in self.now) held (Some author) moment (Diary text) result }
     {
         let judged = self.posts.judge_diary(&text);
@@ -260,6 +261,7 @@ impl Parts {
         text: Text,
         moment: u64,
     ) -> Judged
+        requires { IsAccount (book self.now.certs) author }
         ensures { IsWeighed (site_in self.now) held (Some author) moment (Article title text) result }
     {
         let judged = self.posts.judge_article(&title, &text);
@@ -286,6 +288,7 @@ impl Parts {
         text: Text,
         moment: u64,
     ) -> Judged
+        requires { IsAccount (book self.now.certs) author }
         ensures { IsWeighed (site_in self.now) held (Some author) moment (ReplyTo article text) result }
     {
         let judged = self.posts.judge_reply(article, &text);
@@ -314,6 +317,7 @@ impl Parts {
         text: Text,
         moment: u64,
     ) -> Judged
+        requires { IsAccount (book self.now.certs) author }
         ensures { IsWeighed (site_in self.now) held (Some author) moment (Project name text) result }
     {
         let judged = self.posts.judge_project(&name, &text);

@@ -3,3 +3,4 @@ pub mod SplitArcs
 pub mod Held
 pub mod Capacities
 pub mod Edges
+pub mod Back

@@ -9,9 +9,10 @@ ghost use Rattle.trust_types.specs.Capacity.{entry, AreCapacities, cap_by};
 ghost use Rattle.frozen.specs.Revision.{Revision, certificates};
 ghost use Rattle.split_flow.specs.Split.{SplitNode, InHalf, OutHalf, Supersink, IsNode, IsSplitGraph};
 ghost use Rattle.split_flow.specs.Moved.{IsOneMoved};
-ghost use Rattle.split_graph.specs.Numbers.{node_count};
-ghost use Rattle.split_graph.specs.Arcs.{IsSameGraph, arc_count, first_of, head_of, twin_of, rest_of, between, move_one, LeadsTo};
+ghost use Rattle.split_graph.specs.Numbers.{node_number, node_count};
+ghost use Rattle.split_graph.specs.Arcs.{IsSameGraph, arc_count, first_of, head_of, tail_of, rest_of, between, move_one, LeadsTo};
 ghost use Rattle.split_graph.specs.Network.{Fits, IsLaidFor, StandsFor, rows_of, given_count, IsTaker, arc_along, arc_to_supersink, units_on};
+ghost use Rattle.split_graph.specs.inner.Back.{AreReadBefore};
 
 use crate::arc_table::ArcTable;
 use crate::split_arcs::{SplitArc, list_arcs};
@@ -158,39 +159,66 @@ impl Residual {
         }
     }
 
-    /// The units on the arc that leads back, if that one is along an edge; else 0. They are what may be moved along this arc: mostly nothing, which
-    /// spares a look at the other's end.
-    fn units_back(&self, arc: u32) -> u32
+    /// The units on the arc that leads back to an arc of this node, if that one is along an edge; else 0. They are what may be moved along this
+    /// arc: mostly nothing, which spares a look at where it leads.
+    fn units_back(&self, node: u32, arc: u32) -> u32
         requires stands { StandsFor self.now }
         requires arc { arc < arc_count self.now.arcs }
+        requires tail { tail_of self.now.arcs arc ≡ node }
         ensures { (u v : SplitNode) → LeadsTo self.now.arcs u v arc → result ≡ units_on (between self.now.arcs) v u }
     {
         let units = self.table.rest(arc);
         if units == 0 {
             return 0;
         }
-        let head = self.table.head(arc);
-        if head % 2 == 1 {
-            return 0;
-        }
-        if is_along_edge(head, self.table.head(self.table.twin(arc))) {
+        if is_along_edge(self.table.head(arc), node) {
             return units;
         }
         0
     }
 
-    /// Writes the units on the arc that leads back into its place, which has 0.
-    fn write_back(&self, arc: u32, units: &mut [u32])
+    /// Writes the units on the arc that leads back to an arc of this node into its place, which has 0.
+    fn write_back(&self, node: u32, arc: u32, units: &mut [u32])
         requires stands { StandsFor self.now }
         requires arc { arc < arc_count self.now.arcs }
+        requires tail { tail_of self.now.arcs arc ≡ node }
         requires places { arc_count self.now.arcs ≤ length units.old }
-        requires none { slice_index units.old (twin_of self.now.arcs arc) ≡ 0 }
-        ensures here { (u v : SplitNode) → LeadsTo self.now.arcs u v arc → slice_index units.new (twin_of self.now.arcs arc) ≡ units_on (between self.now.arcs) v u }
-        ensures others { (d : ℕ) → d ≢ twin_of self.now.arcs arc → slice_index units.new d ≡ slice_index units.old d }
+        requires read { AreReadBefore self.now.arcs arc units.old }
+        ensures { AreReadBefore self.now.arcs (arc + 1) units.new }
     {
-        let back = self.units_back(arc);
+        let back = self.units_back(node, arc);
         if back != 0 {
             units[self.table.twin(arc) as usize] = back;
+        }
+    }
+
+    /// Writes the units on the edges to an account into the places of their arcs: the arcs that lead back stand in a row, after those through
+    /// the account and to the supersink.
+    fn write_row(&self, account: AccountNo, units: &mut [u32])
+        requires stands { StandsFor self.now }
+        requires account { account < self.now.arcs.accounts }
+        requires places { arc_count self.now.arcs ≤ length units.old }
+        requires read { AreReadBefore self.now.arcs (first_of self.now.arcs (node_number (InHalf (Account account)))) units.old }
+        ensures { AreReadBefore self.now.arcs (first_of self.now.arcs (node_number (InHalf (Account (account + 1))))) units.new }
+    {
+        let node = in_half(&Node::Account(account));
+        let from = self.table.first(node) + 2;
+        let to = self.table.first(node + 1);
+        for arc in from..to {
+            self.write_back(node, arc, units);
+        }
+    }
+
+    /// Writes 0 into the place of each arc, which is a step.
+    fn clear<L: Ledger>(&self, units: &mut [u32], steps: &mut Steps<L>)
+        requires stands { StandsFor self.now }
+        requires places { arc_count self.now.arcs ≤ length units.old }
+        ensures none { (arc : ℕ) → arc < arc_count self.now.arcs → slice_index units.new arc ≡ 0 }
+        ensures steps { steps.new ≡ steps.old + arc_count self.now.arcs }
+    {
+        for arc in 0..self.first(2 * self.accounts + 3) {
+            units[arc as usize] = 0;
+            steps.tick();
         }
     }
 
@@ -202,10 +230,9 @@ impl Residual {
         ensures units { (u v : SplitNode) (arc : ℕ) → LeadsTo self.now.arcs u v arc → slice_index units.new arc ≡ units_on (between self.now.arcs) u v }
         ensures steps { steps.new ≡ steps.old + arc_count self.now.arcs }
     {
-        units.fill(0);
-        for arc in 0..self.first(2 * self.accounts + 3) {
-            steps.tick();
-            self.write_back(arc, units);
+        self.clear(units, steps);
+        for account in 0..self.accounts {
+            self.write_row(AccountNo(account), units);
         }
     }
 

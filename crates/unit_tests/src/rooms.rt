@@ -8,7 +8,9 @@ use crate::sites::{crowd, site};
 use distances::{Queue, capacities};
 use flow_engine::Workspace;
 use frozen::Frozen;
+use site_text::read_site;
 use split_graph::{ArcView, Residual};
+use std::alloc::Global;
 use std::marker::Brand;
 use std::sync::ledger::{Blank, Ledger};
 use std::test::Fail;
@@ -40,6 +42,43 @@ fn a_workspace_may_have_more_room_than_a_site_needs(rt: HostRuntime) -> Result<(
     }
     assert_eq!(rt; workspace.root_units(AccountNo(0)), 3);
     assert_eq!(rt; workspace.side(Node::Account(AccountNo(1))), Side::Full);
+    Ok(())
+}
+
+/// The text of a site whose one seed certifies all others as Master.
+fn star_text(alloc: Global, accounts: u32) -> Result<String, Fail> {
+    let mut text = format!(in alloc; "caps 2000 2000 1\n")?;
+    for account in 0..accounts {
+        text.push_str(&format!(in alloc; "account u{account}\n")?)?;
+    }
+    text.push_str("seed u0\n")?;
+    for account in 1..accounts {
+        text.push_str(&format!(in alloc; "cert u0 u{account} Master\n")?)?;
+    }
+    Ok(text)
+}
+
+#[test]
+fn a_wide_star_accepts_all_but_one(rt: HostRuntime) -> Result<(), Fail> {
+    let text = star_text(rt.alloc(), 2_000)?;
+    if text.len() > 100_000 {
+        return Err("a short text".into());
+    }
+    let Ok(frozen) = read_site(rt.alloc(), text.as_bytes()) else {
+        return Err("no site".into());
+    };
+    if frozen.accounts() != 2_000 || frozen.certs() > 1_999 {
+        return Err("two thousand accounts".into());
+    }
+    let mut workspace = Workspace::reserve(rt.alloc(), 2_000, 1_999)?;
+    solve_at_master::<Brand>(&mut workspace, &frozen, Blank::new(1));
+    for number in 0..2_000 {
+        assert_eq!(rt;
+            workspace.served(AccountNo(number)),
+            number < 1_999,
+            "{number}"
+        );
+    }
     Ok(())
 }
 

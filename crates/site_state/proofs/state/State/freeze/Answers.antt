@@ -22,7 +22,7 @@ invariant_of-self-2 g c =
     record {
       state = subst (λ (h : History). IsState h parts (s.places + 1) s.texts s.published s.last) (sym c.frozen.ensures)
           (state_frozen h s.parts parts s.places s.texts s.published c.args.caller c.revision-revision.result s.last c.self.invariant.state at needs.newer needs.places
-          (record { site = site; graph = are.graph }));
+          (record { site = site; graph = are.graph; authors = are.authors }));
       opening = c.self.invariant.opening ∙ sym (ap (λ (h : History). h.opening) c.frozen.ensures);
       room = tt;
     }

@@ -1,12 +1,13 @@
-use Rattle.std.proofs.Common.{ℕ, ◌+◌, ◌<◌, ◌≤◌, ◌≡◌, slice_index}
-use Rattle.split_flow.specs.Split.{SplitNode}
-use Rattle.split_graph.specs.Arcs.{LeadsTo, arc_count, twin_of, between}
-use Rattle.split_graph.specs.Network.{units_on}
+use Rattle.std.proofs.Common.{◌≤◌}
+use Rattle.trust_types.specs.declared.accounts.Node.TheVariants.{Account}
+use Rattle.split_flow.specs.Split.{InHalf}
+use Rattle.split_graph.specs.Numbers.{node_number}
+use Rattle.split_graph.specs.Arcs.{first_of}
+use Rattle.split_graph.specs.inner.Back.{AreReadBefore}
 use Rattle.split_graph.proofs.residual_graph.Residual.unload.Given as goal
 
-abbrev pub invariant-loop-arc : goal.invariant-loop-arc
-invariant-loop-arc g l = record {
-  steps : l.steps ≡ l.initial.steps + l.arc;
-  done : (u v : SplitNode) (d : ℕ) → LeadsTo l.self.arcs u v d → twin_of l.self.arcs d < l.arc → slice_index l.units d ≡ units_on (between l.self.arcs) u v;
-  left : (d : ℕ) → d < arc_count l.self.arcs → l.arc ≤ twin_of l.self.arcs d → slice_index l.units d ≡ 0;
+abbrev pub invariant-loop-account : goal.invariant-loop-account
+invariant-loop-account g l = record {
+  read : AreReadBefore l.self.arcs (first_of l.self.arcs (node_number (InHalf (Account l.account)))) l.units;
+  within : l.account ≤ l.self.arcs.accounts;
 }

@@ -1,0 +1,9 @@
+use Rattle.std.proofs.Common.{length}
+use Rattle.trust_types.specs.Kept.{is_article}
+use Rattle.cert_book.specs.Books.{book}
+use Rattle.site_state.specs.inner.Parts.{IsPostedBy}
+use Rattle.site_state.proofs.Listing.{among}
+use Rattle.site_state.proofs.parts.Parts.article.Goals as goal
+
+pub post-requires : goal.post-requires
+post-requires c = among (IsPostedBy (length (book c.args.self.now.certs).names)) is_article c.args.self.now.posts.posts c.args.no c.article-entry.result.now c.requires c.article-entry.ensures
