@@ -1,11 +1,13 @@
 -- Rows that are read one after another.
-use Rattle.std.proofs.Common.{◌≡◌, ℕ, zero, suc, ◌+◌, ◌<◌, ◌≤◌, List, [], ◌∷◌, ◌++◌, length, slice_get, Option, Some, None, Result, Ok, Err, IfSome, refl, sym, ap, ◌∙◌, subst, arith, length-append, inl, inr, false}
+use Rattle.std.specs.Result.{IsErrAnd}
+use Rattle.std.proofs.Common.{◌≡◌, ℕ, zero, suc, ◌+◌, ◌<◌, ◌≤◌, List, [], ◌∷◌, ◌++◌, length, slice_get, Option, Some, None, Result, Ok, Err, IfSome, IfOk, refl, sym, ap, ◌∙◌, subst, arith, length-append, inl, inr, false}
 use Rattle.std.proofs.lemmas.List.{append-nil, append_assoc}
 use Rattle.trust_types.specs.declared.records.Record.{Record}
 use Rattle.trust_types.specs.Kept.{Continues}
 use Rattle.trust_types.specs.Tables.{Table}
 use Rattle.outside.specs.declared.keeper.Fetched.{Fetched}
 use Rattle.outside.specs.declared.keeper.Fetched.TheVariants.{Row, End}
+use Rattle.outside.specs.Causes.{HasCause}
 use Rattle.outside.specs.KeptRows.{ToldRows, Finds}
 use Rattle.site_records.specs.Records.{IsRecord}
 use Rattle.site_records.specs.Rows.{IsRowOf}
@@ -15,8 +17,8 @@ use Rattle.site_history.specs.Legal.{IsLegal}
 use Rattle.site_core.specs.declared.opening.OpenFault.{OpenFault}
 use Rattle.site_core.specs.declared.opening.OpenFault.TheVariants.{Keeper, BadRow, Full, NoMemory}
 use Rattle.site_core.specs.Books.{AreRowsOf}
-use Rattle.site_core.specs.Opening.{Opens, IsRowAt, ContinuesNone, RefusesRows, is_keeper_fault}
-use Rattle.site_core.specs.inner.Opening.{BeginWith, RefusesRow, OpensRow, IsOutside}
+use Rattle.site_core.specs.Opening.{Opens, IsRowAt, ContinuesNone, RefusesRows, is_keeper_fault, is_keepers}
+use Rattle.site_core.specs.inner.Opening.{BeginWith, RefusesRow, OpensRow, IsOutside, HasRead, ReadsNext}
 
 rows_more : (front : List (List ℕ)) (k : List Record) (bytes : List ℕ) (x : Record) → AreRowsOf front k → IsRecord x → IsRowOf x bytes → AreRowsOf (front ++ bytes ∷ []) (k ++ x ∷ [])
 rows_more [] [] bytes x are is row = (is, row, tt)
@@ -122,36 +124,71 @@ pub next_number : (h : History) (n : ℕ) → h.entries ≡ [] → n ≡ places 
 next_number h n none is = omega (arith, is, ap length none)
 
 -- the steps of the loop over rows
-pub alone_more : (opening : Table) (h h' : History) (x : Record) → h ≡ just_opened opening h.opened → h' ≡ with_opened h x → h' ≡ just_opened opening h'.opened
-alone_more opening h h' x alone more =
-    let began : h'.opening ≡ opening = ap (λ (g : History). g.opening) more ∙ ap (λ (g : History). g.opening) alone in
-    let none : h'.entries ≡ [] = ap (λ (g : History). g.entries) more ∙ ap (λ (g : History). g.entries) alone in
-    λ i. record { opening = began i; opened = h'.opened; entries = none i }
+pub read_none : (opening : Table) (told : ToldRows) (h : History) → h ≡ just_opened opening [] → HasRead told 0 h
+read_none opening told h begun = record {
+  alone = ap (λ (g : History). g.entries) begun;
+  count = ap (λ (g : History). length g.opened) begun;
+  begun = subst (BeganWith told) (sym (ap (λ (g : History). g.opened) begun)) (told_none told);
+}
 
-pub count_more : (h h' : History) (x : Record) (n : ℕ) → length h.opened ≡ n → h' ≡ with_opened h x → length h'.opened ≡ n + 1
-count_more h h' x n count more = omega (arith, count, ap (λ (g : History). length g.opened) more, length-append h.opened (x ∷ []))
+-- a site with nothing but opened records
+pub opened_only : (h : History) → h.entries ≡ [] → h ≡ just_opened h.opening h.opened
+opened_only h none = λ i. record { opening = h.opening; opened = h.opened; entries = none i }
 
-pub loop_more : (told now : ToldRows) (h h' : History) (n : ℕ) (bytes : List ℕ) → now ≡ told → length h.opened ≡ n → BeganWith told h.opened → Finds now n Row bytes → OpensRow h h' bytes
-    → BeganWith told h'.opened
-loop_more told now h h' n bytes same count begun found opens =
-    let here : Finds told (length h.opened) Row bytes = subst (λ (z : ToldRows × ℕ). Finds z.0 z.1 Row bytes) (λ i. (same i, sym count i)) found in
-    subst (BeganWith told) (sym (ap (λ (g : History). g.opened) opens.3)) (told_more told h.opened bytes opens.0 begun here opens.1 opens.2)
+found_here : (told : ToldRows) (h : History) (n : ℕ) (found : Fetched) (bytes : List ℕ) → HasRead told n h → Finds told n found bytes → Finds told (length h.opened) found bytes
+found_here told h n found bytes read finds = subst (λ (m : ℕ). Finds told m found bytes) (sym read.count) finds
 
-pub loop_end : (opening : Table) (told now : ToldRows) (h : History) (n : ℕ) (bytes : List ℕ) → now ≡ told → length h.opened ≡ n → BeganWith told h.opened → Finds now n End bytes
-    → h ≡ just_opened opening h.opened → IsLegal h → IfSome told (λ rows. Opens opening rows h.opened)
-loop_end opening told now h n bytes same count begun found alone legal =
-    let here : Finds told (length h.opened) End bytes = subst (λ (z : ToldRows × ℕ). Finds z.0 z.1 End bytes) (λ i. (same i, sym count i)) found in
-    told_all opening told h.opened bytes begun here (subst IsLegal alone legal)
+only_legal : (h : History) → h.entries ≡ [] → IsLegal h → IsLegal (just_opened h.opening h.opened)
+only_legal h none legal = subst IsLegal (opened_only h none) legal
 
-pub loop_refused : (opening : Table) (told now : ToldRows) (h : History) (n : ℕ) (bytes : List ℕ) (fault : OpenFault) → now ≡ told → length h.opened ≡ n → BeganWith told h.opened
-    → Finds now n Row bytes → h ≡ just_opened opening h.opened → IsLegal h → n < 4000000 → RefusesRow h.opening h.opened bytes fault → IfSome told (λ rows. RefusesRows opening rows fault)
-loop_refused opening told now h n bytes fault same count begun found alone legal room why =
-    let here : Finds told (length h.opened) Row bytes = subst (λ (z : ToldRows × ℕ). Finds z.0 z.1 Row bytes) (λ i. (same i, sym count i)) found in
-    let began : h.opening ≡ opening = ap (λ (g : History). g.opening) alone in
-    told_refused opening told h.opened bytes fault begun here (subst IsLegal alone legal) (omega (arith, room, count)) (subst (λ (t : Table). RefusesRow t h.opened bytes fault) began why)
+pub read_more : (told : ToldRows) (h h' : History) (n : ℕ) (bytes : List ℕ) → HasRead told n h → Finds told n Row bytes → OpensRow h h' bytes → ReadsNext told n h h' Row
+read_more told h h' n bytes read finds opens = (
+  record {
+    alone = ap (λ (g : History). g.entries) opens.3 ∙ read.alone;
+    count = omega (arith, read.count, ap (λ (g : History). length g.opened) opens.3, length-append h.opened (opens.0 ∷ []));
+    begun = subst (BeganWith told) (sym (ap (λ (g : History). g.opened) opens.3)) (told_more told h.opened bytes opens.0 read.begun (found_here told h n Row bytes read finds) opens.1 opens.2);
+  },
+  ap (λ (g : History). g.opening) opens.3,
+)
 
-pub loop_full : (opening : Table) (told now : ToldRows) (h : History) (bytes : List ℕ) → now ≡ told → length h.opened ≡ 4000000 → BeganWith told h.opened → Finds now 4000000 Row bytes
-    → h ≡ just_opened opening h.opened → IsLegal h → IfSome told (λ rows. RefusesRows opening rows (Full 4000001))
-loop_full opening told now h bytes same count begun found alone legal =
-    let here : Finds told (length h.opened) Row bytes = subst (λ (z : ToldRows × ℕ). Finds z.0 z.1 Row bytes) (λ i. (same i, sym count i)) found in
-    told_full opening told h.opened bytes begun here (subst IsLegal alone legal) count
+pub read_all : (told : ToldRows) (h : History) (n : ℕ) (bytes : List ℕ) → HasRead told n h → Finds told n End bytes → IsLegal h → IfSome told (λ rows. Opens h.opening rows h.opened)
+read_all told h n bytes read finds legal = told_all h.opening told h.opened bytes read.begun (found_here told h n End bytes read finds) (only_legal h read.alone legal)
+
+pub read_refused : (told : ToldRows) (h : History) (n : ℕ) (bytes : List ℕ) (fault : OpenFault) → HasRead told n h → Finds told n Row bytes → IsLegal h → n < 4000000
+    → RefusesRow h.opening h.opened bytes fault → IfSome told (λ rows. RefusesRows h.opening rows fault)
+read_refused told h n bytes fault read finds legal few why =
+    told_refused h.opening told h.opened bytes fault read.begun (found_here told h n Row bytes read finds) (only_legal h read.alone legal) (omega (arith, few, read.count)) why
+
+pub read_full : (told : ToldRows) (h : History) (bytes : List ℕ) → HasRead told 4000000 h → Finds told 4000000 Row bytes → IsLegal h → IfSome told (λ rows. RefusesRows h.opening rows (Full 4000001))
+read_full told h bytes read finds legal = told_full h.opening told h.opened bytes read.begun (found_here told h 4000000 Row bytes read finds) (only_legal h read.alone legal) read.count
+
+pub few_places : (told : ToldRows) (h : History) (n : ℕ) → HasRead told n h → n < 4000000 → places h < 4000000
+few_places told h n read few = omega (arith, few, read.count, ap length read.alone)
+
+pub read_most : (told : ToldRows) (h : History) (n : ℕ) → HasRead told n h → n ≡ 4000000 → HasRead told 4000000 h
+read_most told h n read is = subst (λ (m : ℕ). HasRead told m h) is read
+
+-- what a step says of the rows that were told at first, and of the table with which the site began
+pub first_refused : (told now : ToldRows) (opening began : Table) (fault : OpenFault) → now ≡ told → began ≡ opening → IfSome now (λ rows. RefusesRows began rows fault)
+    → IfSome told (λ rows. RefusesRows opening rows fault)
+first_refused told now opening began fault same is why = subst (λ (z : ToldRows × Table). IfSome z.0 (λ rows. RefusesRows z.1 rows fault)) (λ i. (same i, is i)) why
+
+pub first_opens : (told now : ToldRows) (opening : Table) (h h' : History) → now ≡ told → h.opening ≡ opening → h' ≡ h → IfSome now (λ rows. Opens h.opening rows h.opened)
+    → IfSome told (λ rows. Opens opening rows h'.opened)
+first_opens told now opening h h' same is kept opens =
+    subst (λ (z : ToldRows × Table × List Record). IfSome z.0 (λ rows. Opens z.1 rows z.2)) (λ i. (same i, is i, sym (ap (λ (g : History). g.opened) kept) i)) opens
+
+pub first_alone : (opening : Table) (h h' : History) → h.entries ≡ [] → h.opening ≡ opening → h' ≡ h → h' ≡ just_opened opening h'.opened
+first_alone opening h h' none is kept =
+    let began : h'.opening ≡ opening = ap (λ (g : History). g.opening) kept ∙ is in
+    let alone : h'.entries ≡ [] = ap (λ (g : History). g.entries) kept ∙ none in
+    λ i. record { opening = began i; opened = h'.opened; entries = alone i }
+
+pub first_cause : {T : Type 0} (r : Result T OpenFault) (fault : OpenFault) (first before now : ℕ) → before ≡ first → IsErrAnd r (λ x. x ≡ fault) → HasCause before now (is_keeper_fault fault)
+    → HasCause first now (is_keepers r)
+first_cause (Ok x) fault first before now same is cause = absurd is
+first_cause (Err x) fault first before now same is cause = subst (λ (z : ℕ × OpenFault). HasCause z.0 now (is_keeper_fault z.1)) (λ i. (same i, sym is i)) cause
+
+pub not_ok : {T E : Type 0} (r : Result T E) (e : E) (P : T → Type 0) → IsErrAnd r (λ x. x ≡ e) → IfOk r P
+not_ok (Ok x) e P is = absurd is
+not_ok (Err x) e P is = tt

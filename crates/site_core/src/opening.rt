@@ -5,10 +5,9 @@ ghost use Rattle.trust_types.specs.declared.records.Record.{Record as Kept};
 ghost use Rattle.outside.specs.Causes.{HasCause};
 ghost use Rattle.outside.specs.KeptRows.{Finds};
 ghost use Rattle.site_history.specs.Histories.{just_opened, places};
-ghost use Rattle.site_history.specs.Legal.{IsLegal};
 ghost use Rattle.site_core.specs.Books.{IsSound};
 ghost use Rattle.site_core.specs.Opening.{Opens, RefusesRows, is_keeper_fault, is_keepers};
-ghost use Rattle.site_core.specs.inner.Opening.{RefusesRow, OpensRow, IsOutside};
+ghost use Rattle.site_core.specs.inner.Opening.{RefusesRow, OpensRow, IsOutside, HasRead, ReadsNext};
 
 use crate::book::Book;
 use outside::{Fetched, KeepFault, Keeper};
@@ -74,12 +73,15 @@ impl<K: Keeper> Book<K> {
         let found = Snapshot::of(&keeper);
         let mut keeper = keeper;
         match read_rows::<K, Brand>(alloc, &mut keeper, caps, Blank::new(1)) {
-            Ok(state) => Ok(Book {
-                state,
-                found,
-                keeper,
-                alloc,
-            }),
+            Ok(state) => {
+                let _ = state.places();
+                Ok(Book {
+                    state,
+                    found,
+                    keeper,
+                    alloc,
+                })
+            }
             Err(fault) => Err(Unopened { fault, keeper }),
         }
     }
@@ -96,7 +98,6 @@ fn read_rows<K: Keeper, L: Ledger>(
     requires parts { blank.parts ≡ L.parts }
     requires some { 0 < blank.parts }
     ensures history { IfOk result (λ state. state.history ≡ just_opened caps state.history.opened) }
-    ensures legal { IfOk result (λ state. IsLegal state.history) }
     ensures opens { IfOk result (λ state. IfSome (K.rows keeper.old) (λ rows. Opens caps rows state.history.opened)) }
     ensures refused { IfErr result (λ fault. IfSome (K.rows keeper.old) (λ rows. RefusesRows caps rows fault)) }
     ensures rows { K.rows keeper.new ≡ K.rows keeper.old }
@@ -104,17 +105,75 @@ fn read_rows<K: Keeper, L: Ledger>(
 {
     let mut steps = Steps::<L>::new(blank);
     let mut state = State::begin(alloc, caps);
+    open_rows(alloc, keeper, &mut state, &mut steps)?;
+    Ok(state)
+}
+
+/// Opens a site with the records of all rows of a keeper.
+fn open_rows<K: Keeper, L: Ledger>(
+    alloc: Global,
+    keeper: &mut K,
+    state: &mut State,
+    steps: &mut Steps<L>,
+) -> Result<(), OpenFault>
+    requires { HasRead (K.rows keeper.old) 0 state.old.history }
+    ensures history { OnOk result (state.new.history ≡ just_opened state.old.history.opening state.new.history.opened) }
+    ensures opens { OnOk result (IfSome (K.rows keeper.old) (λ rows. Opens state.old.history.opening rows state.new.history.opened)) }
+    ensures refused { IfErr result (λ fault. IfSome (K.rows keeper.old) (λ rows. RefusesRows state.old.history.opening rows fault)) }
+    ensures rows { K.rows keeper.new ≡ K.rows keeper.old }
+    ensures cause { HasCause (K.faults keeper.old) (K.faults keeper.new) (is_keepers result) }
+{
     let mut row = Vec::new(alloc);
     for n in 0..4_000_000 {
-        let _ = state.places();
-        match fetch(keeper, n, &mut row)? {
-            Fetched::End => return Ok(state),
-            Fetched::Row => open_row(alloc, &mut state, &row, &mut steps)?,
+        match next_row(alloc, keeper, state, n, &mut row, steps)? {
+            Fetched::End => return Ok(()),
+            Fetched::Row => {}
         }
     }
+    end_of_rows(keeper, state, &mut row)
+}
+
+/// Opens a site with the record of the next row, where the keeper has one.
+fn next_row<K: Keeper, L: Ledger>(
+    alloc: Global,
+    keeper: &mut K,
+    state: &mut State,
+    n: u64,
+    row: &mut Vec<u8>,
+    steps: &mut Steps<L>,
+) -> Result<Fetched, OpenFault>
+    requires read { HasRead (K.rows keeper.old) n state.old.history }
+    requires few { n < 4_000_000 }
+    ensures read { IfOk result (ReadsNext (K.rows keeper.old) n state.old.history state.new.history) }
+    ensures refused { IfErr result (λ fault. IfSome (K.rows keeper.old) (λ rows. RefusesRows state.old.history.opening rows fault)) }
+    ensures rows { K.rows keeper.new ≡ K.rows keeper.old }
+    ensures cause { HasCause (K.faults keeper.old) (K.faults keeper.new) (is_keepers result) }
+{
     let _ = state.places();
-    match fetch(keeper, 4_000_000, &mut row)? {
-        Fetched::End => Ok(state),
+    match fetch(keeper, n, row)? {
+        Fetched::End => Ok(Fetched::End),
+        Fetched::Row => {
+            open_row(alloc, state, row, steps)?;
+            Ok(Fetched::Row)
+        }
+    }
+}
+
+/// Refuses a row beyond as many as a site may be opened with.
+fn end_of_rows<K: Keeper>(
+    keeper: &mut K,
+    state: &State,
+    row: &mut Vec<u8>,
+) -> Result<(), OpenFault>
+    requires { HasRead (K.rows keeper.old) 4_000_000 state.now.history }
+    ensures opens { OnOk result (IfSome (K.rows keeper.old) (λ rows. Opens state.now.history.opening rows state.now.history.opened)) }
+    ensures refused { IfErr result (λ fault. IfSome (K.rows keeper.old) (λ rows. RefusesRows state.now.history.opening rows fault)) }
+    ensures rows { K.rows keeper.new ≡ K.rows keeper.old }
+    ensures cause { HasCause (K.faults keeper.old) (K.faults keeper.new) (is_keepers result) }
+{
+    let _ = state.places();
+    match fetch(keeper, 4_000_000, row)? {
+        Fetched::End => Ok(()),
         Fetched::Row => Err(OpenFault::Full(4_000_001)),
     }
 }
