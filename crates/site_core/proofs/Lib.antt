@@ -1,1 +1,4 @@
 pub mod Keeping
+mod RowsRead
+mod Reopening
+mod RowsOpen

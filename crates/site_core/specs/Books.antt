@@ -2,6 +2,7 @@
 use Rattle.std.specs.Prelude.{ℕ, ◌≡◌, ◌≤◌, ◌+◌, ◌-◌, ◌^◌, ◌⊎◌, List, [], ◌∷◌, ◌++◌, Bool, true, false, Some, None, Result, Ok, Err, count_by, map}
 use Rattle.trust_types.specs.declared.records.Record.{Record}
 use Rattle.outside.specs.KeptRows.{ToldRows}
+use Rattle.site_records.specs.Records.{IsRecord}
 use Rattle.site_records.specs.Rows.{row, IsRowOf}
 use Rattle.site_history.specs.declared.replies.Reply.{Reply}
 use Rattle.site_history.specs.declared.replies.Reply.TheVariants.{Fault}
@@ -25,7 +26,7 @@ abbrev pub AreRowsOf : List (List ℕ) → List Record → Type 0
 AreRowsOf [] [] = Unit {0}
 AreRowsOf [] (x ∷ k) = ⊥
 AreRowsOf (bytes ∷ rows) [] = ⊥
-AreRowsOf (bytes ∷ rows) (x ∷ k) = IsRowOf x bytes × AreRowsOf rows k
+AreRowsOf (bytes ∷ rows) (x ∷ k) = IsRecord x × IsRowOf x bytes × AreRowsOf rows k
 
 abbrev pub AreFoundRows : ToldRows → List Record → Type 0
 AreFoundRows None k = Unit {0}

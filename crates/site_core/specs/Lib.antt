@@ -1,1 +1,4 @@
 pub mod Books
+pub mod Opening
+pub mod inner
+pub mod Laws

@@ -42,8 +42,8 @@ use trust_types::{AccountNo, Caps, Level, Name, Record, Steps};
 #[derive(Drop)]
 pub struct Book<K: Keeper> {
     pub(crate) state: State,
-    found: Snapshot<K>,
-    keeper: K,
+    pub(crate) found: Snapshot<K>,
+    pub(crate) keeper: K,
     pub(crate) alloc: Global,
 }
 
