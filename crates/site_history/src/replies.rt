@@ -1,5 +1,5 @@
 ghost use Rattle.std.specs.Prelude.{◌≡◌, Some};
-ghost use Rattle.site_history.specs.Words.{kind_word, phrase, refusal_words, reply_words};
+ghost use Rattle.site_history.specs.Words.{kind_word, refusal_words, reply_words};
 
 use posting_policy::PostKind;
 use std::fmt;
@@ -88,32 +88,6 @@ fn kind_word(kind: PostKind) -> &'static str
     }
 }
 
-/// The words of a reply that carries nothing. One that carries a number or a level has words of its own.
-fn phrase(reply: Reply) -> &'static str
-    ensures { result.now ≡ phrase reply }
-{
-    match reply {
-        Reply::LoggedOut => "logged out",
-        Reply::NoSession => "no session",
-        Reply::NoSuchAuthor => "no such author",
-        Reply::BadName => "bad name",
-        Reply::AccountsFull => "accounts full",
-        Reply::NoSuchAccount => "no such account",
-        Reply::SelfCert => "self cert",
-        Reply::Same => "same",
-        Reply::CertsFull => "certificates full",
-        Reply::NotSeed => "not a seed",
-        Reply::LastSeed => "last seed",
-        Reply::NoSuchArticle => "no such article",
-        Reply::WrongPassword => "wrong password",
-        Reply::TokenTaken => "token taken",
-        Reply::SessionsFull => "sessions full",
-        Reply::NotSteward => "not a steward",
-        Reply::Fault => "keeper fault",
-        _ => "",
-    }
-}
-
 impl fmt::Display for Reply {
     ghost output = { λ reply. Some (reply_words reply) };
 
@@ -126,15 +100,28 @@ impl fmt::Display for Reply {
                 write!(f, "posted {kind} {number}")
             }
             Reply::LoggedIn(AccountNo(number)) => write!(f, "logged in {number}"),
+            Reply::LoggedOut => write!(f, "logged out"),
+            Reply::NoSession => write!(f, "no session"),
+            Reply::NoSuchAuthor => write!(f, "no such author"),
+            Reply::BadName => write!(f, "bad name"),
             Reply::NameTaken(number) => write!(f, "name taken {number}"),
+            Reply::AccountsFull => write!(f, "accounts full"),
+            Reply::NoSuchAccount => write!(f, "no such account"),
+            Reply::SelfCert => write!(f, "self cert"),
             Reply::NoSuchLevel(levels) => write!(f, "no such level {levels}"),
+            Reply::Same => write!(f, "same"),
+            Reply::CertsFull => write!(f, "certificates full"),
+            Reply::NotSeed => write!(f, "not a seed"),
+            Reply::LastSeed => write!(f, "last seed"),
             Reply::LevelsFall(levels) => write!(f, "levels fall {levels}"),
+            Reply::NoSuchArticle => write!(f, "no such article"),
             Reply::LongText(length) => write!(f, "long text {length}"),
+            Reply::WrongPassword => write!(f, "wrong password"),
+            Reply::TokenTaken => write!(f, "token taken"),
+            Reply::SessionsFull => write!(f, "sessions full"),
             Reply::Denied(held, needed) => write!(f, "denied {held} needs {needed}"),
-            reply => {
-                let words = phrase(reply);
-                write!(f, "{words}")
-            }
+            Reply::NotSteward => write!(f, "not a steward"),
+            Reply::Fault => write!(f, "keeper fault"),
         }
     }
 }
