@@ -5,7 +5,7 @@ mod book;
 mod laws;
 mod opening;
 mod sizes;
-// mod viewing;
+mod viewing;
 
 pub use book::Book;
 pub use laws::{kept_rows_open, open_rows_pass, rows_open_once};
