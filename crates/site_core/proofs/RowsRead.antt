@@ -192,3 +192,14 @@ first_cause (Err x) fault first before now same is cause = subst (λ (z : ℕ ×
 pub not_ok : {T E : Type 0} (r : Result T E) (e : E) (P : T → Type 0) → IsErrAnd r (λ x. x ≡ e) → IfOk r P
 not_ok (Ok x) e P is = absurd is
 not_ok (Err x) e P is = tt
+
+-- a site that had just begun
+pub begun_alone : (opening : Table) (h h' : History) → h ≡ just_opened opening [] → h' ≡ just_opened h.opening h'.opened → h' ≡ just_opened opening h'.opened
+begun_alone opening h h' begun is = subst (λ (t : Table). h' ≡ just_opened t h'.opened) (ap (λ (g : History). g.opening) begun) is
+
+pub begun_opens : (told : ToldRows) (opening : Table) (h : History) (k : List Record) → h ≡ just_opened opening [] → IfSome told (λ rows. Opens h.opening rows k) → IfSome told (λ rows. Opens opening rows k)
+begun_opens told opening h k begun opens = subst (λ (t : Table). IfSome told (λ rows. Opens t rows k)) (ap (λ (g : History). g.opening) begun) opens
+
+pub begun_refused : (told : ToldRows) (opening : Table) (h : History) (fault : OpenFault) → h ≡ just_opened opening [] → IfSome told (λ rows. RefusesRows h.opening rows fault)
+    → IfSome told (λ rows. RefusesRows opening rows fault)
+begun_refused told opening h fault begun why = subst (λ (t : Table). IfSome told (λ rows. RefusesRows t rows fault)) (ap (λ (g : History). g.opening) begun) why
