@@ -35,13 +35,13 @@ returns-in_err-next_row-clause-cause g c =
 pub returns-in-End-clause-history : goal.returns-in-End-clause-history
 returns-in-End-clause-history g c =
     let read : ReadsNext (g.K.Keeper.rows c.loop-n.keeper) c.loop-n.n c.loop-n.state.history c.next_row.new.state.history End =
-        subst (ReadsNext (g.K.Keeper.rows c.loop-n.keeper) c.loop-n.n c.loop-n.state.history c.next_row.new.state.history) c.in-End.is c.in_ok-next_row.ensures.read in
+    subst (ReadsNext (g.K.Keeper.rows c.loop-n.keeper) c.loop-n.n c.loop-n.state.history c.next_row.new.state.history) c.in-End.is c.in_ok-next_row.ensures.read in
     first_alone c.args.state.now.history.opening c.loop-n.state.history c.next_row.new.state.history c.loop-n.invariant.read.alone c.loop-n.invariant.opening read.0
 
 pub returns-in-End-clause-opens : goal.returns-in-End-clause-opens
 returns-in-End-clause-opens g c =
     let read : ReadsNext (g.K.Keeper.rows c.loop-n.keeper) c.loop-n.n c.loop-n.state.history c.next_row.new.state.history End =
-        subst (ReadsNext (g.K.Keeper.rows c.loop-n.keeper) c.loop-n.n c.loop-n.state.history c.next_row.new.state.history) c.in-End.is c.in_ok-next_row.ensures.read in
+    subst (ReadsNext (g.K.Keeper.rows c.loop-n.keeper) c.loop-n.n c.loop-n.state.history c.next_row.new.state.history) c.in-End.is c.in_ok-next_row.ensures.read in
     first_opens (g.K.Keeper.rows c.args.keeper.now) (g.K.Keeper.rows c.loop-n.keeper) c.args.state.now.history.opening c.loop-n.state.history c.next_row.new.state.history
     c.loop-n.invariant.rows c.loop-n.invariant.opening read.0 read.1
 
@@ -56,7 +56,7 @@ loop-n-preserved g c =
     let h : History = c.next_row.new.state.history in
     let n : ℕ = c.loop-n.n in
     let read : ReadsNext (g.K.Keeper.rows c.loop-n.keeper) n c.loop-n.state.history h Row =
-        subst (ReadsNext (g.K.Keeper.rows c.loop-n.keeper) n c.loop-n.state.history h) c.in-Row.is c.in_ok-next_row.ensures.read in
+    subst (ReadsNext (g.K.Keeper.rows c.loop-n.keeper) n c.loop-n.state.history h) c.in-Row.is c.in_ok-next_row.ensures.read in
     record {
       opening = read.1 ∙ c.loop-n.invariant.opening;
       read = subst (λ (told : ToldRows). HasRead told (n + 1) h) (sym c.in_ok-next_row.ensures.rows) read.0;
