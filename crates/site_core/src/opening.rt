@@ -160,11 +160,7 @@ fn next_row<K: Keeper, L: Ledger>(
 }
 
 /// Refuses a row beyond as many as a site may be opened with.
-fn end_of_rows<K: Keeper>(
-    keeper: &mut K,
-    state: &State,
-    row: &mut Vec<u8>,
-) -> Result<(), OpenFault>
+fn end_of_rows<K: Keeper>(keeper: &mut K, state: &State, row: &mut Vec<u8>) -> Result<(), OpenFault>
     requires { HasRead (K.rows keeper.old) 4_000_000 state.now.history }
     ensures opens { OnOk result (IfSome (K.rows keeper.old) (λ rows. Opens state.now.history.opening rows state.now.history.opened)) }
     ensures refused { IfErr result (λ fault. IfSome (K.rows keeper.old) (λ rows. RefusesRows state.now.history.opening rows fault)) }

@@ -1,5 +1,4 @@
-use Rattle.std.proofs.Common.{◌≡◌, ◌∙◌, ◌≤◌, ◌+◌, ℕ, Result, IfSome, refl, sym, subst, arith}
-use Rattle.outside.specs.declared.keeper.Fetched.{Fetched}
+use Rattle.std.proofs.Common.{◌∙◌, ◌+◌, ℕ, IfSome, refl, sym, subst, arith}
 use Rattle.outside.specs.declared.keeper.Fetched.TheVariants.{Row, End}
 use Rattle.outside.specs.KeptRows.{ToldRows}
 use Rattle.site_history.specs.Histories.{History}
@@ -35,13 +34,13 @@ returns-in_err-next_row-clause-cause g c =
 pub returns-in-End-clause-history : goal.returns-in-End-clause-history
 returns-in-End-clause-history g c =
     let read : ReadsNext (g.K.Keeper.rows c.loop-n.keeper) c.loop-n.n c.loop-n.state.history c.next_row.new.state.history End =
-        subst (ReadsNext (g.K.Keeper.rows c.loop-n.keeper) c.loop-n.n c.loop-n.state.history c.next_row.new.state.history) c.in-End.is c.in_ok-next_row.ensures.read in
+    subst (ReadsNext (g.K.Keeper.rows c.loop-n.keeper) c.loop-n.n c.loop-n.state.history c.next_row.new.state.history) c.in-End.is c.in_ok-next_row.ensures.read in
     first_alone c.args.state.now.history.opening c.loop-n.state.history c.next_row.new.state.history c.loop-n.invariant.read.alone c.loop-n.invariant.opening read.0
 
 pub returns-in-End-clause-opens : goal.returns-in-End-clause-opens
 returns-in-End-clause-opens g c =
     let read : ReadsNext (g.K.Keeper.rows c.loop-n.keeper) c.loop-n.n c.loop-n.state.history c.next_row.new.state.history End =
-        subst (ReadsNext (g.K.Keeper.rows c.loop-n.keeper) c.loop-n.n c.loop-n.state.history c.next_row.new.state.history) c.in-End.is c.in_ok-next_row.ensures.read in
+    subst (ReadsNext (g.K.Keeper.rows c.loop-n.keeper) c.loop-n.n c.loop-n.state.history c.next_row.new.state.history) c.in-End.is c.in_ok-next_row.ensures.read in
     first_opens (g.K.Keeper.rows c.args.keeper.now) (g.K.Keeper.rows c.loop-n.keeper) c.args.state.now.history.opening c.loop-n.state.history c.next_row.new.state.history
     c.loop-n.invariant.rows c.loop-n.invariant.opening read.0 read.1
 
@@ -56,7 +55,7 @@ loop-n-preserved g c =
     let h : History = c.next_row.new.state.history in
     let n : ℕ = c.loop-n.n in
     let read : ReadsNext (g.K.Keeper.rows c.loop-n.keeper) n c.loop-n.state.history h Row =
-        subst (ReadsNext (g.K.Keeper.rows c.loop-n.keeper) n c.loop-n.state.history h) c.in-Row.is c.in_ok-next_row.ensures.read in
+    subst (ReadsNext (g.K.Keeper.rows c.loop-n.keeper) n c.loop-n.state.history h) c.in-Row.is c.in_ok-next_row.ensures.read in
     record {
       opening = read.1 ∙ c.loop-n.invariant.opening;
       read = subst (λ (told : ToldRows). HasRead told (n + 1) h) (sym c.in_ok-next_row.ensures.rows) read.0;
