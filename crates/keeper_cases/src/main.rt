@@ -13,7 +13,7 @@ use anyhow::{Result, bail};
 use keeper_sqlite::SqliteKeeper;
 use outside::{Fetched, KeepFault, Keeper};
 use std::alloc::Global;
-use std::io::{self, BufRead, BufReader, BufWriter, Write};
+use std::io::{self, Read, Write};
 use trust_types::Text;
 
 fn fault_text(fault: KeepFault) -> &'static str {
@@ -97,34 +97,45 @@ fn opens(rt: &HostRuntime, keeper: &mut SqliteKeeper, step: &str) -> Result<bool
     Ok(true)
 }
 
-fn show(step: &str, answer: &str, out: &mut impl Write) -> Result<()> {
-    out.write_all(step.as_bytes())?;
-    out.write_all(b"\n    ")?;
-    out.write_all(answer.as_bytes())?;
-    out.write_all(b"\n")?;
+/// Takes one step. Gives the answer.
+fn take_step(rt: &HostRuntime, keeper: &mut SqliteKeeper, step: &str) -> Result<String> {
+    if opens(rt, keeper, step)? {
+        return Ok(String::from_str(rt.alloc(), "opened")?);
+    }
+    answer(rt.alloc(), keeper, step)
+}
+
+/// Takes the steps of all blocks, and writes each with its answer.
+fn show(rt: &HostRuntime, keeper: &mut SqliteKeeper, input: &str, out: &mut String) -> Result<()> {
+    let mut heading = true;
+    for line in input.lines() {
+        out.push_str(line)?;
+        out.push('\n')?;
+        if !heading && !line.is_empty() {
+            let answer = take_step(rt, keeper, line)?;
+            out.push_str("    ")?;
+            out.push_str(answer.as_str())?;
+            out.push('\n')?;
+        }
+        heading = line.is_empty();
+    }
     Ok(())
 }
 
+/// What is shown for all blocks.
+fn shown(rt: &HostRuntime, input: &str) -> Result<String> {
+    let mut out = String::new(rt.alloc());
+    let mut keeper = SqliteKeeper::in_memory(rt.alloc());
+    let shown = show(rt, &mut keeper, input, &mut out);
+    drop(keeper);
+    shown?;
+    Ok(out)
+}
+
 fn main(rt: HostRuntime) -> Result<()> {
-    let alloc = rt.alloc();
-    let mut out = BufWriter::new(alloc, io::writer(&rt))?;
-    let mut heading = true;
-    let mut keeper = SqliteKeeper::in_memory(alloc);
-    for line in BufReader::new(alloc, rt.reader())?.lines(alloc) {
-        let line = line?;
-        if heading || line.is_empty() {
-            out.write_all(line.as_bytes())?;
-            out.write_all(b"\n")?;
-            heading = line.is_empty();
-            continue;
-        }
-        if opens(&rt, &mut keeper, line.as_str())? {
-            show(line.as_str(), "opened", &mut out)?;
-        } else {
-            let answer = answer(alloc, &mut keeper, line.as_str())?;
-            show(line.as_str(), answer.as_str(), &mut out)?;
-        }
-    }
-    out.flush()?;
+    let mut input = String::new(rt.alloc());
+    rt.reader().read_to_string(&mut input)?;
+    let out = shown(&rt, input.as_str())?;
+    io::writer(&rt).write_all(out.as_bytes())?;
     Ok(())
 }

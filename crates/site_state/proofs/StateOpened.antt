@@ -88,15 +88,15 @@ post_follows opening k (Diary moment author text) continues = tt
 post_follows opening k (Article moment author title text) continues = tt
 
 pub can_follow : (opening : tables.Table) (k : List Record) (x : Record) → Continues opening k x → Fits k x → CanAdd (book_of opening (changes k)) (posts_of k) x
-can_follow opening k (Join moment name secret) continues fits = record { change = (continues, fits); post = tt }
-can_follow opening k (Seed moment a) continues fits = record { change = (continues, tt); post = tt }
-can_follow opening k (Unseed moment a) continues fits = record { change = (continues, tt); post = tt }
-can_follow opening k (Cert moment author subject level) continues fits = record { change = (continues, (place opening k (Cert moment author subject level)).1 fits); post = tt }
-can_follow opening k (Table moment caps) continues fits = record { change = (continues, tt); post = tt }
-can_follow opening k (Diary moment author text) continues fits = record { change = tt; post = tt }
-can_follow opening k (Article moment author title text) continues fits = record { change = tt; post = tt }
-can_follow opening k (Reply moment author article text) continues fits = record { change = tt; post = post_follows opening k (Reply moment author article text) continues }
-can_follow opening k (Project moment author name text) continues fits = record { change = tt; post = post_follows opening k (Project moment author name text) continues }
+can_follow opening k (Join moment name secret) continues fits = record { change = (continues, fits); post = tt; author = tt }
+can_follow opening k (Seed moment a) continues fits = record { change = (continues, tt); post = tt; author = tt }
+can_follow opening k (Unseed moment a) continues fits = record { change = (continues, tt); post = tt; author = tt }
+can_follow opening k (Cert moment author subject level) continues fits = record { change = (continues, (place opening k (Cert moment author subject level)).1 fits); post = tt; author = tt }
+can_follow opening k (Table moment caps) continues fits = record { change = (continues, tt); post = tt; author = tt }
+can_follow opening k (Diary moment author text) continues fits = record { change = tt; post = tt; author = continues }
+can_follow opening k (Article moment author title text) continues fits = record { change = tt; post = tt; author = continues }
+can_follow opening k (Reply moment author article text) continues fits = record { change = tt; post = post_follows opening k (Reply moment author article text) continues; author = continues.0 }
+can_follow opening k (Project moment author name text) continues fits = record { change = tt; post = post_follows opening k (Project moment author name text) continues; author = continues.0 }
 
 pub opened_can_add : (h : History) (parts : Parts) (x : Record) → h.entries ≡ [] → ArePartsOf h.opening (records h) (live h) parts → Continues h.opening h.opened x → Fits h.opened x
     → CanAdd (book parts.certs) parts.posts.posts x
