@@ -1,5 +1,5 @@
 -- The book of a site that was opened.
-use Rattle.std.proofs.Common.{◌≡◌, ℕ, ◌+◌, ◌≤◌, List, [], ◌∷◌, ◌++◌, length, map, drop, count_by, Option, Some, None, IfSome, refl, sym, ap, ◌∙◌, arith, inl}
+use Rattle.std.proofs.Common.{◌≡◌, ℕ, ◌+◌, ◌≤◌, List, [], length, map, count_by, Some, None, IfSome, refl, sym, ap, ◌∙◌, arith, inl}
 use Rattle.std.proofs.lemmas.List.{append-nil, drop_all}
 use Rattle.trust_types.specs.declared.records.Record.{Record}
 use Rattle.trust_types.specs.Tables.{Table}
@@ -7,7 +7,7 @@ use Rattle.outside.specs.KeptRows.{ToldRows}
 use Rattle.site_records.specs.Rows.{row}
 use Rattle.site_history.specs.Histories.{History, just_opened, is_fault, records, records_added}
 use Rattle.site_history.specs.Legal.{IsLegal}
-use Rattle.site_core.specs.Books.{Kept, IsSound, AreFoundRows, append_rows}
+use Rattle.site_core.specs.Books.{IsSound, AreFoundRows, append_rows}
 use Rattle.site_core.specs.Opening.{Opens}
 use Rattle.site_core.proofs.Keeping.{kept_of}
 

@@ -1,5 +1,5 @@
 -- What rows that open say of the records in them.
-use Rattle.std.proofs.Common.{◌≡◌, ◌⊎◌, ℕ, ◌+◌, ◌≤◌, List, [], ◌∷◌, ◌++◌, length, sum_by, refl, sym, ap, ◌∙◌, subst, arith, length-append, inl, inr, ⊎_elim}
+use Rattle.std.proofs.Common.{◌≡◌, ℕ, ◌≤◌, List, [], ◌∷◌, ◌++◌, length, sum_by, refl, ap, subst, arith, length-append, inl, inr, ⊎_elim}
 use Rattle.std.proofs.lemmas.List.Sums.{sum_by-append, sum_by-cons}
 use Rattle.trust_types.specs.declared.records.Record.{Record}
 use Rattle.trust_types.specs.Kept.{Continues}
@@ -12,10 +12,8 @@ use Rattle.site_history.specs.Legal.{IsLegal}
 use Rattle.site_history.specs.Texts.{texts, texts_in_record}
 use Rattle.site_state.specs.Opened.{IsWithinLimits}
 use Rattle.site_state.proofs.KeptWell.{records_legal}
-use Rattle.site_core.specs.declared.opening.OpenFault.{OpenFault}
 use Rattle.site_core.specs.declared.opening.OpenFault.TheVariants.{Keeper, BadRow, Full, NoMemory}
 use Rattle.site_core.specs.Books.{AreRowsOf}
-use Rattle.site_core.specs.Opening.{Opens, RefusesRows}
 use Rattle.site_core.specs.Laws.{KeptRowsOpen, RowsOpenOnce, OpenRowsPass}
 
 pub kept_rows : KeptRowsOpen

@@ -1,9 +1,8 @@
 -- Rows that are read one after another.
 use Rattle.std.specs.Result.{IsErrAnd}
-use Rattle.std.proofs.Common.{◌≡◌, ℕ, zero, suc, ◌+◌, ◌<◌, ◌≤◌, List, [], ◌∷◌, ◌++◌, length, slice_get, Option, Some, None, Result, Ok, Err, IfSome, IfOk, refl, sym, ap, ◌∙◌, subst, arith, length-append, inl, inr, false}
+use Rattle.std.proofs.Common.{◌≡◌, ℕ, suc, ◌+◌, ◌<◌, ◌≤◌, List, [], ◌∷◌, ◌++◌, length, slice_get, Some, None, Result, Ok, Err, IfSome, IfOk, refl, sym, ap, ◌∙◌, subst, arith, length-append, inl, inr}
 use Rattle.std.proofs.lemmas.List.{append-nil, append_assoc}
 use Rattle.trust_types.specs.declared.records.Record.{Record}
-use Rattle.trust_types.specs.Kept.{Continues}
 use Rattle.trust_types.specs.Tables.{Table}
 use Rattle.outside.specs.declared.keeper.Fetched.{Fetched}
 use Rattle.outside.specs.declared.keeper.Fetched.TheVariants.{Row, End}
@@ -11,14 +10,13 @@ use Rattle.outside.specs.Causes.{HasCause}
 use Rattle.outside.specs.KeptRows.{ToldRows, Finds}
 use Rattle.site_records.specs.Records.{IsRecord}
 use Rattle.site_records.specs.Rows.{IsRowOf}
-use Rattle.site_records.proofs.Whole.{one_record}
-use Rattle.site_history.specs.Histories.{History, just_opened, with_opened, places}
+use Rattle.site_history.specs.Histories.{History, just_opened, places}
 use Rattle.site_history.specs.Legal.{IsLegal}
 use Rattle.site_core.specs.declared.opening.OpenFault.{OpenFault}
 use Rattle.site_core.specs.declared.opening.OpenFault.TheVariants.{Keeper, BadRow, Full, NoMemory}
 use Rattle.site_core.specs.Books.{AreRowsOf}
-use Rattle.site_core.specs.Opening.{Opens, IsRowAt, ContinuesNone, RefusesRows, is_keeper_fault, is_keepers}
-use Rattle.site_core.specs.inner.Opening.{BeginWith, RefusesRow, OpensRow, IsOutside, HasRead, ReadsNext}
+use Rattle.site_core.specs.Opening.{Opens, IsRowAt, RefusesRows, is_keeper_fault, is_keepers}
+use Rattle.site_core.specs.inner.Opening.{BeginWith, RefusesRow, OpensRow, HasRead, ReadsNext}
 
 rows_more : (front : List (List ℕ)) (k : List Record) (bytes : List ℕ) (x : Record) → AreRowsOf front k → IsRecord x → IsRowOf x bytes → AreRowsOf (front ++ bytes ∷ []) (k ++ x ∷ [])
 rows_more [] [] bytes x are is row = (is, row, tt)
@@ -101,27 +99,6 @@ pub told_full : (opening : Table) (told : ToldRows) (k : List Record) (bytes : L
     → length k ≡ 4000000 → IfSome told (λ rows. RefusesRows opening rows (Full 4000001))
 told_full opening None k bytes begin found legal full = tt
 told_full opening (Some rows) k bytes begin found legal full = (k, bytes, row_at opening rows 4000001 k bytes begin found legal (omega (arith, full)), inl full)
-
--- what a fault of a call tells of the rows, and what a refused row tells of the keeper
-pub outside_refused : (opening : Table) (told : ToldRows) (fault : OpenFault) → IsOutside fault → IfSome told (λ rows. RefusesRows opening rows fault)
-outside_refused opening None fault is = tt
-outside_refused opening (Some rows) Keeper is = tt
-outside_refused opening (Some rows) (BadRow n) is = absurd is
-outside_refused opening (Some rows) (Full n) is = absurd is
-outside_refused opening (Some rows) NoMemory is = tt
-
-pub no_keepers : (opening : Table) (k : List Record) (bytes : List ℕ) (fault : OpenFault) → RefusesRow opening k bytes fault → is_keeper_fault fault ≡ false
-no_keepers opening k bytes Keeper why = absurd why
-no_keepers opening k bytes (BadRow n) why = refl
-no_keepers opening k bytes (Full n) why = refl
-no_keepers opening k bytes NoMemory why = refl
-
--- a row whose record doesn't continue is that of no other record
-pub continues_none : (opening : Table) (k : List Record) (bytes : List ℕ) (x : Record) → IsRecord x → IsRowOf x bytes → ¬ (Continues opening k x) → ContinuesNone opening k bytes
-continues_none opening k bytes x is row bad y is' row' continues = bad (subst (Continues opening k) (one_record y x bytes is' is row' row) continues)
-
-pub next_number : (h : History) (n : ℕ) → h.entries ≡ [] → n ≡ places h → n + 1 ≡ length h.opened + 1
-next_number h n none is = omega (arith, is, ap length none)
 
 -- the steps of the loop over rows
 pub read_none : (opening : Table) (told : ToldRows) (h : History) → h ≡ just_opened opening [] → HasRead told 0 h

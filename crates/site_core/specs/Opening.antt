@@ -1,9 +1,8 @@
 -- Over which rows a site is opened, and where others are refused.
-use Rattle.std.specs.Prelude.{ℕ, Bool, true, false, ◌≡◌, ◌≤◌, ◌+◌, ◌⊎◌, List, [], ◌∷◌, ◌++◌, Option, Result, Ok, Err, IfSome, length}
+use Rattle.std.specs.Prelude.{ℕ, Bool, true, false, ◌≡◌, ◌≤◌, ◌+◌, ◌⊎◌, List, ◌∷◌, ◌++◌, Result, Ok, Err, length}
 use Rattle.trust_types.specs.declared.records.Record.{Record}
 use Rattle.trust_types.specs.Kept.{Continues}
 use Rattle.trust_types.specs.Tables.{Table}
-use Rattle.outside.specs.KeptRows.{ToldRows}
 use Rattle.site_records.specs.Records.{IsRecord}
 use Rattle.site_records.specs.Rows.{IsRowOf}
 use Rattle.site_history.specs.Histories.{just_opened}

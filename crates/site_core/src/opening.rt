@@ -1,7 +1,6 @@
 //! How a site is opened over the rows of its keeper.
 
 ghost use Rattle.std.specs.Prelude.{◌≡◌, ◌<◌, ◌+◌, [], IfOk, IfErr, IfSome, OnOk};
-ghost use Rattle.trust_types.specs.declared.records.Record.{Record as Kept};
 ghost use Rattle.outside.specs.Causes.{HasCause};
 ghost use Rattle.outside.specs.KeptRows.{Finds};
 ghost use Rattle.site_history.specs.Histories.{just_opened, places};

@@ -1,5 +1,5 @@
 -- For the opening of a site alone: one row after another.
-use Rattle.std.specs.Prelude.{ℕ, ◌≡◌, ◌≤◌, ◌+◌, List, [], ◌++◌, Option, Some, IfSome, length, slice_get}
+use Rattle.std.specs.Prelude.{ℕ, ◌≡◌, ◌+◌, List, [], ◌++◌, IfSome, length}
 use Rattle.trust_types.specs.declared.records.Record.{Record}
 use Rattle.trust_types.specs.Kept.{Continues}
 use Rattle.trust_types.specs.Tables.{Table}
@@ -8,7 +8,7 @@ use Rattle.outside.specs.declared.keeper.Fetched.TheVariants.{Row, End}
 use Rattle.outside.specs.KeptRows.{ToldRows}
 use Rattle.site_records.specs.Records.{IsRecord}
 use Rattle.site_records.specs.Rows.{IsRowOf}
-use Rattle.site_history.specs.Histories.{History, places, with_opened}
+use Rattle.site_history.specs.Histories.{History, with_opened}
 use Rattle.site_state.specs.Opened.{IsWithinLimits}
 use Rattle.site_core.specs.declared.opening.OpenFault.{OpenFault}
 use Rattle.site_core.specs.declared.opening.OpenFault.TheVariants.{Keeper, BadRow, Full, NoMemory}

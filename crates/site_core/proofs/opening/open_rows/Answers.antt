@@ -1,5 +1,4 @@
-use Rattle.std.proofs.Common.{◌≡◌, ◌∙◌, ◌≤◌, ◌+◌, ℕ, Result, IfSome, refl, sym, subst, arith}
-use Rattle.outside.specs.declared.keeper.Fetched.{Fetched}
+use Rattle.std.proofs.Common.{◌∙◌, ◌+◌, ℕ, IfSome, refl, sym, subst, arith}
 use Rattle.outside.specs.declared.keeper.Fetched.TheVariants.{Row, End}
 use Rattle.outside.specs.KeptRows.{ToldRows}
 use Rattle.site_history.specs.Histories.{History}

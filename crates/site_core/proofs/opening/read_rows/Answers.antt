@@ -1,7 +1,6 @@
-use Rattle.std.proofs.Common.{◌≡◌, IfSome, refl}
-use Rattle.site_history.specs.Histories.{just_opened}
+use Rattle.std.proofs.Common.{IfSome, refl}
 use Rattle.site_core.specs.declared.opening.OpenFault.{OpenFault}
-use Rattle.site_core.specs.Opening.{Opens, RefusesRows}
+use Rattle.site_core.specs.Opening.{RefusesRows}
 use Rattle.site_state.proofs.StateOpened.{err_by}
 use Rattle.site_core.proofs.RowsRead.{read_none, begun_alone, begun_opens, begun_refused, first_cause, not_ok}
 use Rattle.site_core.proofs.opening.read_rows.Goals as goal
