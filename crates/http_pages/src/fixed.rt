@@ -1,0 +1,61 @@
+//! The answers in which nothing of a site is shown.
+
+ghost use Rattle.std.specs.Prelude.{◌≡◌, ◌<◌, Contains, IfOk, if◌then◌else◌, ◌==◌};
+ghost use Rattle.http_pages.specs.Dates.{NO_DATE};
+ghost use Rattle.http_pages.specs.Fixed.{fault_text, fixed_statuses, fixed_reply};
+ghost use Rattle.http_pages.specs.Pages.{account_page, error_page};
+ghost use Rattle.http_pages.specs.Responses.{response};
+ghost use Rattle.http_pages.specs.inner.Bodies.{body_of};
+
+use crate::bodies::Body;
+use crate::responses::{Head, Kind, respond};
+use std::alloc::Global;
+use trust_types::NoMemory;
+
+fn fault_text(status: u16) -> &'static str
+    ensures { result.now ≡ fault_text status }
+{
+    match status {
+        400 => "bad request",
+        403 => "no session",
+        404 => "not found",
+        413 => "too long",
+        431 => "head too long",
+        _ => "not implemented",
+    }
+}
+
+fn fixed_body(status: u16) -> Body<'static>
+    ensures { body_of result ≡ (if status == 200 then account_page else error_page (fault_text status)) }
+{
+    match status {
+        200 => Body::Account,
+        _ => Body::Error(fault_text(status)),
+    }
+}
+
+/// The response of a status in which nothing of the site is shown: 200 with the forms to join and to log in; 400, 403, 404, 413, 431 and 501
+/// with the reason. `close` says that the link is to be closed, and with `bare` the body isn't sent; its length is told all the same. It is
+/// written once, into memory of its length.
+///
+/// # Errors
+/// [`NoMemory`] where there isn't enough for the response.
+pub fn fixed_page(
+    alloc: Global,
+    status: u16,
+    close: bool,
+    bare: bool,
+    moment: u64,
+) -> Result<Vec<u8>, NoMemory>
+    requires status { Contains fixed_statuses status }
+    requires moment { moment < NO_DATE }
+    ensures { IfOk result (λ bytes. bytes.items ≡ response (fixed_reply status) close bare moment) }
+{
+    let told = Head {
+        status,
+        kind: Kind::Html,
+        further: b"",
+        close,
+    };
+    respond(alloc, &told, &fixed_body(status), bare, moment)
+}
