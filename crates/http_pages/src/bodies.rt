@@ -1,13 +1,18 @@
 //! The bodies of responses.
 
-ghost use Rattle.std.specs.Prelude.{◌≡◌, ◌++◌, OnOk, codes};
-ghost use Rattle.http_pages.specs.Pages.{opening, account_page, error_page};
+ghost use Rattle.std.specs.Prelude.{◌≡◌, ◌++◌, OnOk, codes, map};
+ghost use Rattle.http_pages.specs.Pages.{opening, account_page, error_page, person_page, stewards_page, roster_page, no_roster};
+ghost use Rattle.trust_types.specs.NodeWords.{name_of};
 ghost use Rattle.http_pages.specs.inner.Bodies.{body_of};
 ghost use Rattle.http_pages.specs.inner.Inks.{inked};
 
-use crate::lines::{put_form, put_paragraph};
+use crate::lines::{
+    put_form, put_heading, put_level_line, put_levels_line, put_paragraph, put_publication_line,
+};
+use crate::lists::{put_caps, put_certs, put_roster, put_seeds};
 use crate::pens::Pen;
-use trust_types::NoMemory;
+use crate::shown::Roster;
+use trust_types::{Caps, Level, Name, NoMemory};
 
 /// What is shown.
 #[derive(Drop)]
@@ -18,6 +23,23 @@ pub enum Body<'a> {
     Account,
     /// Why there is no page.
     Error(&'a str),
+    /// A text as it is.
+    Text(&'a [u8]),
+    /// An account: its level, and the certificates that it gives and takes.
+    Person {
+        name: &'a Name,
+        level: Level,
+        given: &'a [(Name, Level)],
+        taken: &'a [(Name, Level)],
+    },
+    /// The table in force, and the seeds.
+    Stewards {
+        caps: &'a Caps,
+        seeds: &'a [Name],
+    },
+    Roster(Roster<'a>),
+    /// The roster of a grade before there is a publication.
+    NoRoster(Level),
 }
 
 /// What stands in front of a page's content.
@@ -61,6 +83,59 @@ fn put_error(pen: &mut Pen, text: &[u8]) -> Result<(), NoMemory>
     Ok(())
 }
 
+#[tactic(auto, using(crate::proofs::Inking::inked_twice, std::proofs::Common::append_assoc), unfolding(crate::specs::Pages::page, crate::specs::Pages::person_page))]
+fn put_person(
+    pen: &mut Pen,
+    name: &Name,
+    level: Level,
+    given: &[(Name, Level)],
+    taken: &[(Name, Level)],
+) -> Result<(), NoMemory>
+    ensures { OnOk result (pen.new ≡ inked pen.old (person_page name.now level given.now taken.now)) }
+{
+    open_page(pen, name.bytes())?;
+    put_level_line(pen, level)?;
+    put_heading(pen, b"certifies")?;
+    put_certs(pen, given)?;
+    put_heading(pen, b"certified by")?;
+    put_certs(pen, taken)?;
+    close_page(pen)?;
+    Ok(())
+}
+
+#[tactic(auto, using(crate::proofs::Inking::inked_twice, std::proofs::Common::append_assoc), unfolding(crate::specs::Pages::page, crate::specs::Pages::stewards_page))]
+fn put_stewards(pen: &mut Pen, caps: &Caps, seeds: &[Name]) -> Result<(), NoMemory>
+    ensures { OnOk result (pen.new ≡ inked pen.old (stewards_page caps.now seeds.now)) }
+{
+    open_page(pen, b"stewards")?;
+    put_levels_line(pen, caps.levels())?;
+    put_caps(pen, caps.entries())?;
+    put_seeds(pen, seeds)?;
+    close_page(pen)?;
+    Ok(())
+}
+
+#[tactic(auto, using(crate::proofs::Inking::inked_twice, std::proofs::Common::append_assoc), unfolding(crate::specs::Pages::page, crate::specs::Pages::roster_page))]
+fn put_roster_page(pen: &mut Pen, roster: &Roster<'_>) -> Result<(), NoMemory>
+    ensures { OnOk result (pen.new ≡ inked pen.old (roster_page roster.now.grade roster.now.number roster.now.revision (map (name_of roster.now.frozen.now.names) roster.now.served.now))) }
+{
+    open_page(pen, roster.grade.name().as_bytes())?;
+    put_publication_line(pen, roster.number, roster.revision)?;
+    put_roster(pen, roster.frozen, roster.served)?;
+    close_page(pen)?;
+    Ok(())
+}
+
+#[tactic(auto, using(crate::proofs::Inking::inked_twice, std::proofs::Common::append_assoc), unfolding(crate::specs::Pages::page, crate::specs::Pages::no_roster))]
+fn put_no_roster(pen: &mut Pen, grade: Level) -> Result<(), NoMemory>
+    ensures { OnOk result (pen.new ≡ inked pen.old (no_roster grade)) }
+{
+    open_page(pen, grade.name().as_bytes())?;
+    put_paragraph(pen, b"no publication")?;
+    close_page(pen)?;
+    Ok(())
+}
+
 /// Puts down a body.
 pub fn put_body(pen: &mut Pen, body: &Body<'_>) -> Result<(), NoMemory>
     ensures { OnOk result (pen.new ≡ inked pen.old (body_of body.now)) }
@@ -69,5 +144,15 @@ pub fn put_body(pen: &mut Pen, body: &Body<'_>) -> Result<(), NoMemory>
         Body::Empty => pen.put(b""),
         Body::Account => put_account(pen),
         Body::Error(text) => put_error(pen, text.as_bytes()),
+        Body::Text(text) => pen.put(text),
+        Body::Person {
+            name,
+            level,
+            given,
+            taken,
+        } => put_person(pen, name, *level, given, taken),
+        Body::Stewards { caps, seeds } => put_stewards(pen, caps, seeds),
+        Body::Roster(roster) => put_roster_page(pen, roster),
+        Body::NoRoster(grade) => put_no_roster(pen, *grade),
     }
 }

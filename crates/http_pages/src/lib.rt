@@ -5,7 +5,9 @@ mod bodies;
 mod dates;
 mod fixed;
 mod lines;
+mod lists;
 mod pens;
 mod responses;
+mod shown;
 
 pub use fixed::fixed_page;
