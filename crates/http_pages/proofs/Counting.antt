@@ -1,14 +1,13 @@
 -- The days counted one after another are the calendar's, and each moment's date is the one text that shows it.
-use Rattle.std.proofs.Common.{◌≡◌, ℕ, zero, suc, ◌+◌, ◌-◌, ◌*◌, ◌/◌, ◌%◌, ◌<◌, ◌≤◌, nat_lt, List, refl, sym, ◌∙◌, ap, arith, Bool, true, false, if◌then◌else◌, ◌==◌, ◌||◌}
-use Rattle.std.proofs.lemmas.Bool.{cases_order}
+use Rattle.std.proofs.Common.{◌≡◌, ℕ, zero, suc, ◌+◌, ◌-◌, ◌*◌, ◌/◌, ◌%◌, ◌<◌, ◌≤◌, nat_lt, refl, sym, ◌∙◌, ap, arith, Bool, true, false, if◌then◌else◌}
 use Rattle.std.proofs.lemmas.Bool.Decides.{nat_tests}
-use Rattle.httpdate.specs.Calendar.{days_in_month, days_in_year, days_of_years, days_of_months, days_from_civil, IsCivilDate, weekday}
+use Rattle.httpdate.specs.Calendar.{days_in_month, days_in_year, days_of_years, days_of_months, days_from_civil, weekday}
 use Rattle.httpdate.specs.declared.date.HttpDate.{HttpDate}
 use Rattle.httpdate.specs.Date.{unix_secs, date_text}
 use Rattle.httpdate.specs.Text.{imf_fixdate}
 use Rattle.httpdate.proofs.CalendarLemmas.{days_of_years_closed, days_of_months_more, days_of_months_all}
 use Rattle.httpdate.proofs.Theorems.{unix_secs_injective}
-use Rattle.http_pages.specs.Dates.{Day, day_after, day_of, parts_on, date_of, NO_DATE}
+use Rattle.http_pages.specs.Dates.{Day, day_of, parts_on, date_of, NO_DATE}
 
 -- A day of the calendar, so many days after 1 January 1970.
 pub record IsDay (d : Day) (n : ℕ) : Type 0 where

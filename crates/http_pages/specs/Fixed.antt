@@ -1,5 +1,5 @@
 -- The answers in which nothing of a site is shown.
-use Rattle.std.specs.Prelude.{ℕ, List, [], ◌∷◌, ◌==◌, codes, Contains, if◌then◌else◌}
+use Rattle.std.specs.Prelude.{ℕ, List, [], ◌∷◌, ◌==◌, codes, if◌then◌else◌}
 use Rattle.http_pages.specs.declared.responses.Kind.TheVariants.{Html}
 use Rattle.http_pages.specs.Pages.{account_page, error_page}
 use Rattle.http_pages.specs.Responses.{Reply}

@@ -1,2 +1,3 @@
-pub mod Inks
 pub mod Bodies
+pub mod Inks
+pub mod Shown

@@ -3,15 +3,18 @@
 ghost use Rattle.std.specs.Prelude.{◌≡◌, ◌++◌, OnOk, codes, map};
 ghost use Rattle.http_pages.specs.Pages.{opening, account_page, error_page, person_page, stewards_page, roster_page, no_roster};
 ghost use Rattle.trust_types.specs.NodeWords.{name_of};
-ghost use Rattle.http_pages.specs.inner.Bodies.{body_of};
+ghost use Rattle.http_pages.specs.inner.Bodies.{front_page, diary_page, article_page, project_page, body_of};
 ghost use Rattle.http_pages.specs.inner.Inks.{inked};
 
 use crate::lines::{
     put_form, put_heading, put_level_line, put_levels_line, put_paragraph, put_publication_line,
 };
-use crate::lists::{put_caps, put_certs, put_roster, put_seeds};
+use crate::lists::{
+    put_caps, put_certs, put_diary, put_headlines, put_replies, put_roster, put_seeds, put_written,
+};
 use crate::pens::Pen;
-use crate::shown::Roster;
+use crate::shown::{CleanPost, Headline, Roster};
+use markup::SafeHtml;
 use trust_types::{Caps, Level, Name, NoMemory};
 
 /// What is shown.
@@ -40,6 +43,22 @@ pub enum Body<'a> {
     Roster(Roster<'a>),
     /// The roster of a grade before there is a publication.
     NoRoster(Level),
+    /// The newest articles.
+    Front(&'a [Headline]),
+    Diary {
+        name: &'a Name,
+        posts: &'a [CleanPost],
+    },
+    /// An article, its title escaped.
+    Article {
+        title: &'a SafeHtml,
+        post: &'a CleanPost,
+        replies: &'a [CleanPost],
+    },
+    Project {
+        name: &'a Name,
+        post: &'a CleanPost,
+    },
 }
 
 /// What stands in front of a page's content.
@@ -136,6 +155,72 @@ fn put_no_roster(pen: &mut Pen, grade: Level) -> Result<(), NoMemory>
     Ok(())
 }
 
+#[tactic(auto, using(crate::proofs::Inking::inked_twice, std::proofs::Common::append_assoc), unfolding(crate::specs::Pages::page, crate::specs::inner::Bodies::front_page))]
+fn put_front(pen: &mut Pen, articles: &[Headline]) -> Result<(), NoMemory>
+    ensures { OnOk result (pen.new ≡ inked pen.old (front_page articles.now)) }
+{
+    open_page(pen, b"virgule")?;
+    put_headlines(pen, articles)?;
+    close_page(pen)?;
+    Ok(())
+}
+
+#[tactic(auto, using(crate::proofs::Inking::inked_twice))]
+fn put_diary_title(pen: &mut Pen, name: &[u8]) -> Result<(), NoMemory>
+    ensures { OnOk result (pen.new ≡ inked pen.old (codes "Diary of " ++ name.now)) }
+{
+    pen.put(b"Diary of ")?;
+    pen.put(name)?;
+    Ok(())
+}
+
+fn open_diary(pen: &mut Pen, name: &[u8]) -> Result<(), NoMemory>
+    ensures { OnOk result (pen.new ≡ inked pen.old (opening (codes "Diary of " ++ name.now))) }
+{
+    pen.put(b"<!DOCTYPE html>\n<html><head><title>")?;
+    put_diary_title(pen, name)?;
+    pen.put(b"</title></head><body>\n<h1>")?;
+    put_diary_title(pen, name)?;
+    pen.put(b"</h1>\n")?;
+    Ok(())
+}
+
+#[tactic(auto, using(crate::proofs::Inking::inked_twice, std::proofs::Common::append_assoc), unfolding(crate::specs::Pages::page, crate::specs::inner::Bodies::diary_page))]
+fn put_diary_page(pen: &mut Pen, name: &Name, posts: &[CleanPost]) -> Result<(), NoMemory>
+    ensures { OnOk result (pen.new ≡ inked pen.old (diary_page name.now posts.now)) }
+{
+    open_diary(pen, name.bytes())?;
+    put_diary(pen, posts)?;
+    close_page(pen)?;
+    Ok(())
+}
+
+#[tactic(auto, using(crate::proofs::Inking::inked_twice, std::proofs::Common::append_assoc), unfolding(crate::specs::Pages::page, crate::specs::inner::Bodies::article_page))]
+fn put_article(
+    pen: &mut Pen,
+    title: &SafeHtml,
+    post: &CleanPost,
+    replies: &[CleanPost],
+) -> Result<(), NoMemory>
+    ensures { OnOk result (pen.new ≡ inked pen.old (article_page title.now post.now replies.now)) }
+{
+    open_page(pen, title.bytes())?;
+    put_written(pen, post)?;
+    put_replies(pen, replies)?;
+    close_page(pen)?;
+    Ok(())
+}
+
+#[tactic(auto, using(crate::proofs::Inking::inked_twice, std::proofs::Common::append_assoc), unfolding(crate::specs::Pages::page, crate::specs::inner::Bodies::project_page))]
+fn put_project(pen: &mut Pen, name: &Name, post: &CleanPost) -> Result<(), NoMemory>
+    ensures { OnOk result (pen.new ≡ inked pen.old (project_page name.now post.now)) }
+{
+    open_page(pen, name.bytes())?;
+    put_written(pen, post)?;
+    close_page(pen)?;
+    Ok(())
+}
+
 /// Puts down a body.
 pub fn put_body(pen: &mut Pen, body: &Body<'_>) -> Result<(), NoMemory>
     ensures { OnOk result (pen.new ≡ inked pen.old (body_of body.now)) }
@@ -154,5 +239,13 @@ pub fn put_body(pen: &mut Pen, body: &Body<'_>) -> Result<(), NoMemory>
         Body::Stewards { caps, seeds } => put_stewards(pen, caps, seeds),
         Body::Roster(roster) => put_roster_page(pen, roster),
         Body::NoRoster(grade) => put_no_roster(pen, *grade),
+        Body::Front(articles) => put_front(pen, articles),
+        Body::Diary { name, posts } => put_diary_page(pen, name, posts),
+        Body::Article {
+            title,
+            post,
+            replies,
+        } => put_article(pen, title, post, replies),
+        Body::Project { name, post } => put_project(pen, name, post),
     }
 }

@@ -6,9 +6,14 @@ ghost use Rattle.trust_types.specs.NodeWords.{name_of};
 ghost use Rattle.frozen.specs.Revision.{certificates};
 ghost use Rattle.http_pages.specs.Lines.{list, cert_line, seed_line, roster_line, spaced, caps_line};
 ghost use Rattle.http_pages.specs.inner.Inks.{inked};
+ghost use Rattle.http_pages.specs.inner.Shown.{headline, entry, written, reply};
 
-use crate::lines::{put_cert_line, put_roster_line, put_seed_line, put_spaced};
+use crate::lines::{
+    put_article_line, put_cert_line, put_entry, put_post, put_reply, put_roster_line,
+    put_seed_line, put_spaced,
+};
 use crate::pens::Pen;
+use crate::shown::{CleanPost, Headline};
 use frozen::Frozen;
 use trust_types::{AccountNo, Level, Name, NoMemory};
 
@@ -101,5 +106,78 @@ pub fn put_caps(pen: &mut Pen, entries: &[u32]) -> Result<(), NoMemory>
     pen.put(b"<p>caps")?;
     put_entries(pen, entries)?;
     pen.put(b"</p>\n")?;
+    Ok(())
+}
+
+#[tactic(auto, using(crate::proofs::Inking::inked_twice), unfolding(crate::specs::inner::Shown::headline))]
+fn put_headline(pen: &mut Pen, article: &Headline) -> Result<(), NoMemory>
+    ensures { OnOk result (pen.new ≡ inked pen.old (headline article.now)) }
+{
+    put_article_line(pen, article.number, article.title.bytes(), &article.author)?;
+    Ok(())
+}
+
+#[tactic(auto, using(crate::proofs::Inking::inked_twice), unfolding(crate::specs::inner::Shown::entry))]
+fn put_clean_entry(pen: &mut Pen, post: &CleanPost) -> Result<(), NoMemory>
+    ensures { OnOk result (pen.new ≡ inked pen.old (entry post.now)) }
+{
+    put_entry(pen, post.moment, post.html.bytes())?;
+    Ok(())
+}
+
+/// An article or a project.
+#[tactic(auto, using(crate::proofs::Inking::inked_twice), unfolding(crate::specs::inner::Shown::written))]
+pub fn put_written(pen: &mut Pen, post: &CleanPost) -> Result<(), NoMemory>
+    ensures { OnOk result (pen.new ≡ inked pen.old (written post.now)) }
+{
+    put_post(pen, &post.author, post.moment, post.html.bytes())?;
+    Ok(())
+}
+
+#[tactic(auto, using(crate::proofs::Inking::inked_twice), unfolding(crate::specs::inner::Shown::reply))]
+fn put_clean_reply(pen: &mut Pen, post: &CleanPost) -> Result<(), NoMemory>
+    ensures { OnOk result (pen.new ≡ inked pen.old (reply post.now)) }
+{
+    put_reply(pen, &post.author, post.moment, post.html.bytes())?;
+    Ok(())
+}
+
+fn put_headline_lines(pen: &mut Pen, articles: &[Headline]) -> Result<(), NoMemory>
+    ensures { OnOk result (pen.new ≡ inked pen.old (flat_map headline articles.now)) }
+{
+    for article in articles {
+        put_headline(pen, article)?;
+    }
+    Ok(())
+}
+
+/// The articles of the front page.
+#[tactic(auto, using(crate::proofs::Inking::inked_twice), unfolding(crate::specs::Lines::list))]
+pub fn put_headlines(pen: &mut Pen, articles: &[Headline]) -> Result<(), NoMemory>
+    ensures { OnOk result (pen.new ≡ inked pen.old (list (flat_map headline articles.now))) }
+{
+    pen.put(b"<ul>\n")?;
+    put_headline_lines(pen, articles)?;
+    pen.put(b"</ul>\n")?;
+    Ok(())
+}
+
+/// The entries of a diary.
+pub fn put_diary(pen: &mut Pen, posts: &[CleanPost]) -> Result<(), NoMemory>
+    ensures { OnOk result (pen.new ≡ inked pen.old (flat_map entry posts.now)) }
+{
+    for post in posts {
+        put_clean_entry(pen, post)?;
+    }
+    Ok(())
+}
+
+/// The replies to an article.
+pub fn put_replies(pen: &mut Pen, posts: &[CleanPost]) -> Result<(), NoMemory>
+    ensures { OnOk result (pen.new ≡ inked pen.old (flat_map reply posts.now)) }
+{
+    for post in posts {
+        put_clean_reply(pen, post)?;
+    }
     Ok(())
 }
