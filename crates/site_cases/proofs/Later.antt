@@ -1,5 +1,5 @@
 -- A graph that was frozen of a site, after one entry more.
-use Rattle.std.proofs.Common.{◌≡◌, ℕ, List, length, Option, Some, None, Result, Ok, Err, IfSome, IfOk, OnErr, option_to_list, refl, sym, ap, subst, arith, length-append}
+use Rattle.std.proofs.Common.{◌≡◌, ◌≤◌, ℕ, List, ◌++◌, length, Option, Some, None, Result, Ok, Err, IfSome, IfOk, OnErr, option_to_list, refl, sym, ap, subst, arith, length-append}
 use Rattle.std.proofs.lemmas.List.Elements.{filter_map-append}
 use Rattle.std.specs.declared.sync.Arc.{Arc}
 use Rattle.trust_types.specs.declared.records.Record.{Record}

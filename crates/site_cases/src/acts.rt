@@ -86,12 +86,18 @@ fn cert(alloc: Global, words: &str) -> Result<Command, Unread> {
     })
 }
 
+/// The numbers that the words are, with a blank between two; 0 where one is none.
+fn numbers_in(alloc: Global, words: &str) -> Result<Vec<u32>, NoMemory> {
+    let mut numbers = Vec::new(alloc);
+    for word in words.split(' ') {
+        numbers.push(word.parse().unwrap_or(0))?;
+    }
+    Ok(numbers)
+}
+
 fn table(alloc: Global, words: &str) -> Result<Command, Unread> {
     let (levels, words) = words.split_once(' ').ok_or(Unread::NoAct)?;
-    let mut entries = Vec::new(alloc);
-    for entry in words.split(' ') {
-        entries.push(entry.parse().unwrap_or(0))?;
-    }
+    let entries = numbers_in(alloc, words)?;
     match Caps::with_levels(levels.parse().unwrap_or(0), &entries) {
         Ok(caps) => Ok(Command::Table { caps }),
         Err(_) => Err(Unread::NoAct),

@@ -8,7 +8,6 @@ use crate::steps::{Bare, Step, step_of};
 use crate::views::shown;
 use roster_form::Publication;
 use site_core::Book;
-use site_records::row_of;
 use std::alloc::{AllocError, Global};
 use std::sync::ledger::Ledger;
 use trust_types::{Level, Name, NoMemory, Steps};
@@ -103,13 +102,13 @@ fn level(alloc: Global, site: &Site, word: &str) -> Result<String, NoMemory> {
     }
 }
 
-/// The row of a record that changed the graph or the table.
+/// A record that changed the graph or the table.
 fn change(alloc: Global, site: &Site, n: u32) -> Result<String, NoMemory> {
     if n >= site.book.revision() {
         return Ok(String::from_str(alloc, "no such change")?);
     }
-    let row = row_of(alloc, site.book.graph_record(n))?;
-    Ok(String::from_str(alloc, str::from_utf8(&row).unwrap_or("no text"))?)
+    let record = site.book.graph_record(n);
+    Ok(format!(in alloc; "{record:?}")?)
 }
 
 fn bare<L: Ledger>(

@@ -11,7 +11,7 @@
 //! - `rows`: the rows that were kept;
 //! - `site`: how many places, publications and revisions there are;
 //! - `level NAME`: the level that the account holds;
-//! - `change N`: the row of the n-th record that changed the graph or the table, counted from 0;
+//! - `change N`: the N-th record that changed the graph or the table, counted from 0;
 //! - `last`: the number, the revision and the rosters of the last publication;
 //! - `show front`, `show person NAME`, `show diary NAME`, `show article N`, `show project NAME`, `show stewards`.
 
