@@ -5,9 +5,8 @@ use Rattle.std.specs.declared.sync.Arc.{Arc}
 use Rattle.trust_types.specs.declared.records.Record.{Record}
 use Rattle.trust_types.specs.Kept.{changes, change_of, revision, upto}
 use Rattle.frozen.specs.Revision.{Revision}
-use Rattle.roster_form.specs.Candidates.{Rosters}
 use Rattle.site_history.specs.Histories.{Entry, Freeze, History, with_entry, records, record_added}
-use Rattle.site_history.specs.Legal.{IsFrozenOf, Suits}
+use Rattle.site_history.specs.Legal.{IsFrozenOf}
 use Rattle.site_history.proofs.Growing.{records-add, records-same}
 use Rattle.site_history.proofs.Revisions.{frozen_now, frozen_later}
 use Rattle.site_cases.specs.Graphs.{IsPastGraph}
@@ -48,9 +47,3 @@ pub kept_after : {A B Z : Type 0} (h h' : History) (entry : A → Entry) (result
     → IfSome kept (λ graph. IsPastGraph h' graph.value)
 kept_after h h' entry (Ok x) kept ok err is = subst (λ (z : History). IfSome kept (λ graph. IsPastGraph z graph.value)) (sym ok) (kept_later h (entry x) kept is)
 kept_after h h' entry (Err fault) kept ok err is = subst (λ (z : History). IfSome kept (λ graph. IsPastGraph z graph.value)) (sym err) is
-
--- a candidate over it suits the records
-pub suits : (h : History) (f : Revision) (c : Rosters) → c.graph ≡ f → IsPastGraph h f → Suits h.opening (records h) c
-suits h f c same is =
-    let of : IsPastGraph h c.graph = subst (IsPastGraph h) (sym same) is in
-    record { past = of.past; graph = of.graph }
