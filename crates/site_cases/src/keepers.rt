@@ -65,10 +65,7 @@ pub(crate) fn listed(alloc: Global, rows: &[Vec<u8>]) -> Result<String, NoMemory
 }
 
 /// Why a site wasn't opened, and the rows that are handed back.
-pub(crate) fn unopened(
-    alloc: Global,
-    refused: &Unopened<MemKeeper>,
-) -> Result<String, NoMemory> {
+pub(crate) fn unopened(alloc: Global, refused: &Unopened<MemKeeper>) -> Result<String, NoMemory> {
     let rows = listed(alloc, refused.keeper.rows())?;
     Ok(format!(in alloc; "{}; handed back:\n{}", refused.fault, rows.as_str())?)
 }

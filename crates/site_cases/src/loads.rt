@@ -102,7 +102,11 @@ fn certify_many(
     let mut giver: u64 = 1;
     for _ in 0..count {
         let taker = next(giver);
-        let answer = certify(site, name_by(alloc, names, giver)?, name_by(alloc, names, taker)?);
+        let answer = certify(
+            site,
+            name_by(alloc, names, giver)?,
+            name_by(alloc, names, taker)?,
+        );
         if is_reply(answer) {
             replies = replies.saturating_add(1);
         }
@@ -124,7 +128,11 @@ fn freeze_many<L: Ledger>(
     for _ in 0..count {
         let taker = next(giver);
         let is_frozen = site.freeze(steps).is_ok();
-        let answer = certify(site, name_by(alloc, names, giver)?, name_by(alloc, names, taker)?);
+        let answer = certify(
+            site,
+            name_by(alloc, names, giver)?,
+            name_by(alloc, names, taker)?,
+        );
         if is_frozen && is_reply(answer) {
             done = done.saturating_add(1);
         }
@@ -147,7 +155,13 @@ pub(crate) fn load<L: Ledger>(
             certify_many(alloc, site, count, &names_of(alloc, letters, accounts)?)?
         }
         Load::Freezes(count, letters, accounts) => {
-            freeze_many(alloc, site, count, &names_of(alloc, letters, accounts)?, steps)?
+            freeze_many(
+                alloc,
+                site,
+                count,
+                &names_of(alloc, letters, accounts)?,
+                steps,
+            )?
         }
     };
     Ok(format!(in alloc; "{replies} replies")?)

@@ -15,8 +15,8 @@ mod views;
 
 ghost use Rattle.std.specs.Prelude.{◌≡◌, ◌<◌};
 
-use anyhow::Result;
 use answers::take_step;
+use anyhow::Result;
 use keepers::{keeper_of, opening, unopened};
 use outside::MemKeeper;
 use site::Site;

@@ -53,11 +53,7 @@ fn front(alloc: Global, heads: &[ArticleHead]) -> Result<String, AllocError> {
 }
 
 /// Adds certificates, by the other account of each.
-fn add_certs(
-    text: &mut String,
-    title: &str,
-    certs: &[(Name, Level)],
-) -> Result<(), AllocError> {
+fn add_certs(text: &mut String, title: &str, certs: &[(Name, Level)]) -> Result<(), AllocError> {
     text.push_str(title)?;
     for (name, level) in certs {
         text.push_str(format!(in *text.allocator(); " {name} {level}")?.as_str())?;
