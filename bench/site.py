@@ -9,7 +9,7 @@ copied, and another book is opened over the copies. Python keeps a list of rows,
 a set of givers for each taker; it opens by the reader of forms of its library. SQLite keeps the same rows with one insert each, in a table in memory. The
 aim is at most 2.5 seconds for a million of each.
 
-At last a graph is frozen before each of 1,000 more certificates, among 2,000,000. The aim is at most a millisecond.
+At last a graph is frozen before each of 10,000 more certificates, among some 2,000,000. The aim is at most a millisecond.
 
 Nothing depends on these numbers. The program is built first where it has to be. It runs so many times (3 where none is named), and the least time is
 shown.
@@ -27,7 +27,7 @@ from urllib.parse import parse_qs
 from measured import measure_in_turn
 
 CRATE = Path(__file__).resolve().parent.parent / "crates" / "site_cases"
-FREEZES = 1_000
+FREEZES = 10_000
 MILLION = 1_000_000
 MASK = 2**64 - 1
 
