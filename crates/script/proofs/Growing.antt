@@ -1,6 +1,7 @@
 -- What actors have goes on to suit a site whose history grows.
-use Rattle.std.proofs.Common.{ℕ, ◌≡◌, ◌≤◌, ◌<◌, ◌-◌, ◌⊎◌, List, ◌++◌, length, get_or, replicate, Option, Some, None, All, IfSome, option_to_list, sym, ap, subst, ◌∙◌, refl, ⊎_elim, arith, length-append}
-use Rattle.std.proofs.lemmas.List.{length-set, length-replicate}
+use Rattle.std.proofs.Common.{ℕ, ◌≡◌, ◌≤◌, ◌<◌, ◌-◌, ◌⊎◌, List, [], ◌++◌, length, get_or, replicate, Option, Some, None, All, IfSome, option_to_list, sym, ap, subst, ◌∙◌, refl, ⊎_elim, inl, inr, arith, length-append}
+use Rattle.std.proofs.lemmas.Bool.{cases_lt}
+use Rattle.std.proofs.lemmas.List.{length-set, length-replicate, get_or_past}
 use Rattle.std.proofs.lemmas.List.Elements.{All-set, All-replicate, filter_map-append}
 use Rattle.trust_types.specs.declared.records.Record.{Record}
 use Rattle.trust_types.specs.Kept.{changes, change_of, revision, upto}
@@ -54,8 +55,11 @@ ready_grown h after actors grows is = ⊎_elim
     (λ (more : (e : Entry) × (after ≡ with_entry h e)). subst (λ (x : History). AreReady x actors) (sym more.1) (ready_with h more.0 actors is)) grows
 
 -- what one of them has
-pub ready_at : (h : History) (actors : List Holdings) (n : ℕ) → 1 ≤ n → n ≤ 64 → AreReady h actors → SuitsAll h.opening (records h) (held_by actors n)
-ready_at h actors n least most is = is.each (n - 1) nothing_held (omega (arith, is.count))
+pub ready_at : (h : History) (actors : List Holdings) (n : ℕ) → AreReady h actors → SuitsAll h.opening (records h) (held_by actors n)
+ready_at h actors n is = elim (cases_lt (n - 1) (length actors)) [
+  | inl below ↦ is.each (n - 1) nothing_held below
+  | inr past ↦ subst (SuitsAll h.opening (records h)) (sym (get_or_past actors (n - 1) nothing_held past)) (record { kept = tt; candidate = tt })
+]
 
 ready_set : (h : History) (actors : List Holdings) (n : ℕ) (held : Holdings) → AreReady h actors → SuitsAll h.opening (records h) held → AreReady h (with_held actors n held)
 ready_set h actors n held is suits = record {
@@ -70,14 +74,14 @@ of_past opening k f is = record {
   graph = subst (λ (r : ℕ). IsFrozenOf opening (upto k r) f) (sym is.number) (frozen_now opening k f is);
 }
 
-pub ready_kept : (h : History) (actors : List Holdings) (n : ℕ) (f : Revision) → 1 ≤ n → n ≤ 64 → AreReady h actors → IsFrozenOf h.opening (records h) f → AreReady h (with_kept actors n f)
-ready_kept h actors n f least most is frozen =
+pub ready_kept : (h : History) (actors : List Holdings) (n : ℕ) (f : Revision) → AreReady h actors → IsFrozenOf h.opening (records h) f → AreReady h (with_kept actors n f)
+ready_kept h actors n f is frozen =
     ready_set h actors n (record (held_by actors n) { kept = Some f }) is
-    (record { kept = of_past h.opening (records h) f frozen; candidate = (ready_at h actors n least most is).candidate })
+    (record { kept = of_past h.opening (records h) f frozen; candidate = (ready_at h actors n is).candidate })
 
-pub ready_taken : (h : History) (actors : List Holdings) (n : ℕ) → 1 ≤ n → n ≤ 64 → AreReady h actors → AreReady h (without_candidate actors n)
-ready_taken h actors n least most is =
-    ready_set h actors n (record (held_by actors n) { candidate = None }) is (record { kept = (ready_at h actors n least most is).kept; candidate = tt })
+pub ready_taken : (h : History) (actors : List Holdings) (n : ℕ) → AreReady h actors → AreReady h (without_candidate actors n)
+ready_taken h actors n is =
+    ready_set h actors n (record (held_by actors n) { candidate = None }) is (record { kept = (ready_at h actors n is).kept; candidate = tt })
 
 -- a candidate over a graph of the past suits the records
 candidate_of : (opening : Table) (k : List Record) (f : Revision) (c : Rosters) → c.graph ≡ f → IsOfPast opening k f → Suits opening k c
@@ -93,10 +97,10 @@ suits_found opening k (Some f) before (Some r) after same finds is =
     let kept : IsOfPast opening k f = subst (λ (o : Option Revision). IfSome o (IsOfPast opening k)) (sym same) is.kept in
     subst (SuitsAll opening k) (sym finds.4) (record { kept = is.kept; candidate = candidate_of opening k f finds.0 finds.2 kept })
 
-pub ready_found : (h : History) (actors : List Holdings) (n : ℕ) (found : Option ℕ) (held : Holdings) → 1 ≤ n → n ≤ 64 → Finds (held_by actors n) found held
+pub ready_found : (h : History) (actors : List Holdings) (n : ℕ) (found : Option ℕ) (held : Holdings) → Finds (held_by actors n) found held
     → AreReady h actors → AreReady h (with_held actors n held)
-ready_found h actors n found held least most finds is =
-    ready_set h actors n held is (suits_found h.opening (records h) (held_by actors n).kept (held_by actors n) found held refl finds (ready_at h actors n least most is))
+ready_found h actors n found held finds is =
+    ready_set h actors n held is (suits_found h.opening (records h) (held_by actors n).kept (held_by actors n) found held refl finds (ready_at h actors n is))
 
 -- the last entry of a legal history is one that the history before it allows
 pub last-meets : (h : History) (e : Entry) → IsLegal (with_entry h e) → Meets h e

@@ -1,5 +1,6 @@
 -- What a look at the last publication shows.
-use Rattle.std.proofs.Common.{◌≡◌, ℕ, List, Option, Some, None, IfSome, option_map, sym, ap, subst, ◌∙◌}
+use Rattle.std.proofs.Common.{◌≡◌, ◌<◌, ℕ, List, All, get_or, Option, Some, None, IfSome, option_map, sym, ap, subst, ◌∙◌}
+use Rattle.std.proofs.lemmas.List.Elements.{Contains-get_or}
 use Rattle.trust_types.specs.declared.levels.Level.{Level}
 use Rattle.trust_types.specs.declared.records.Record.{Record}
 use Rattle.trust_types.specs.Graph.{Certificates}
@@ -7,7 +8,7 @@ use Rattle.trust_types.specs.Kept.{upto}
 use Rattle.trust_types.specs.Proven.{Lists}
 use Rattle.trust_types.specs.Roster.{IsRoster}
 use Rattle.trust_types.specs.Tables.{Table}
-use Rattle.frozen.specs.Revision.{Revision}
+use Rattle.frozen.specs.Revision.{Revision, certificates}
 use Rattle.roster_form.specs.Bounded.{IsBounded}
 use Rattle.roster_form.specs.Candidates.{IsSound, lists_at}
 use Rattle.roster_form.specs.declared.publications.Publication.{Publication}
@@ -17,6 +18,10 @@ use Rattle.site_history.specs.Legal.{IsFrozenOf, StandsFor}
 use Rattle.site_state.proofs.Holding.{served-lists}
 use Rattle.script.specs.Outputs.{shown_line, look_line}
 use Rattle.script.specs.Runs.{IsRosterOf, HasRoster, PlaysLook}
+
+-- a roster's accounts are accounts of the graph
+pub among : (f : Revision) (level : Level) (r : Lists) → IsSound f level r → All (λ a. a < (certificates f).accounts) r.served
+among f level r sound = λ k d inside. ((sound.proven.1.2.serves (get_or r.served k d)).1 (Contains-get_or r.served k d inside)).0
 
 -- the lists of a grade that prove whom it serves over a graph of records give a roster of the records
 shown_roster : (f : Revision) (level : Level) (o : Option Lists) (opening : Table) (k : List Record) → IsFrozenOf opening k f → IfSome o (IsSound f level)

@@ -199,7 +199,9 @@ fn publish<K: Keeper>(
 fn published_line(number: u32, revision: u32) -> Line
     ensures { result.bytes ≡ codes "published " ++ decimal number ++ codes " revision " ++ decimal revision }
 {
-    let mut line = numbered("published ", u64::from(number));
+    let mut line = Line::new();
+    line.push_str("published ");
+    put_number(&mut line, u64::from(number));
     line.push_str(" revision ");
     put_number(&mut line, u64::from(revision));
     line

@@ -1,6 +1,7 @@
 //! A script, played line by line.
 
-ghost use Rattle.std.specs.Prelude.{◌≡◌, ◌++◌, AllByRecursion, OnOk, OnErr, codes, decimal};
+ghost use Rattle.std.specs.Prelude.{◌≡◌, OnOk, OnErr};
+ghost use Rattle.std.specs.List.{AllByRecursion};
 ghost use Rattle.trust_types.specs.Kept.{IsMoment};
 ghost use Rattle.site_core.specs.Books.{IsSound};
 ghost use Rattle.script.specs.Stages.{stage_of, stage_at_first};
