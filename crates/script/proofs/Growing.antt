@@ -1,5 +1,5 @@
 -- What actors have goes on to suit a site whose history grows.
-use Rattle.std.proofs.Common.{ℕ, ◌≡◌, ◌≤◌, ◌<◌, ◌-◌, ◌⊎◌, List, [], ◌++◌, length, get_or, replicate, Option, Some, None, All, IfSome, option_to_list, sym, ap, subst, ◌∙◌, refl, ⊎_elim, inl, inr, arith, length-append}
+use Rattle.std.proofs.Common.{ℕ, ◌≡◌, ◌≤◌, ◌-◌, List, [], ◌++◌, length, get_or, replicate, Option, Some, None, Result, Ok, Err, IfSome, OnOk, option_to_list, sym, ap, subst, ◌∙◌, refl, ⊎_elim, inl, inr, arith, length-append}
 use Rattle.std.proofs.lemmas.Bool.{cases_lt}
 use Rattle.std.proofs.lemmas.List.{length-set, length-replicate, get_or_past}
 use Rattle.std.proofs.lemmas.List.Elements.{All-set, All-replicate, filter_map-append}
@@ -101,6 +101,10 @@ pub ready_found : (h : History) (actors : List Holdings) (n : ℕ) (found : Opti
     → AreReady h actors → AreReady h (with_held actors n held)
 ready_found h actors n found held finds is =
     ready_set h actors n held is (suits_found h.opening (records h) (held_by actors n).kept (held_by actors n) found held refl finds (ready_at h actors n is))
+
+pub whenever_ok : {T E Q : Type 0} (r : Result T E) → Q → OnOk r Q
+whenever_ok (Ok x) q = q
+whenever_ok (Err e) q = tt
 
 -- the last entry of a legal history is one that the history before it allows
 pub last-meets : (h : History) (e : Entry) → IsLegal (with_entry h e) → Meets h e

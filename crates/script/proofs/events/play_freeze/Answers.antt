@@ -1,4 +1,4 @@
-use Rattle.std.proofs.Common.{◌≡◌, ◌++◌, ◌∷◌, [], ℕ, List, Ok, Err, codes, decimal, refl, sym, ap, subst, ◌∙◌, inr, rules}
+use Rattle.std.proofs.Common.{◌≡◌, ◌++◌, ℕ, List, Ok, Err, codes, decimal, refl, sym, ap, subst, ◌∙◌, inr, rules}
 use Rattle.trust_types.specs.Kept.{revision}
 use Rattle.frozen.specs.Revision.{Revision}
 use Rattle.site_history.specs.declared.faults.FreezeFault.TheVariants.{Same, HistoryFull}
