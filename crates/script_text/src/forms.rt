@@ -105,7 +105,7 @@ fn proof_by(secret: Secret) -> [u8; 32]
 
 /// The secret of a new account with that name.
 fn secret_in(alloc: Global, name: &str, word: Option<&str>) -> Result<Secret, LineFault>
-    ensures { Tells result (secret_in name.now (option_map (λ word. word.now) word)) }
+    ensures { Tells result (secret_in name.now (option_map (λ word. word.now) word.entry)) }
 {
     let Some(word) = word else {
         return Ok(Secret::Absent);
