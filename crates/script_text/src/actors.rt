@@ -1,7 +1,8 @@
 //! The actors of a script.
 
-ghost use Rattle.std.specs.Prelude.{◌≡◌, []};
-ghost use Rattle.script_text.specs.Actors.{numbered, actor_in};
+ghost use Rattle.std.specs.Prelude.{◌≡◌, ◌<◌, [], None, IfSome, length};
+ghost use Rattle.trust_types.specs.NameLists.{number_of};
+ghost use Rattle.script_text.specs.Actors.{numbered, numbered_by, actor_in};
 ghost use Rattle.script_text.specs.inner.Reading.{TellsWith};
 
 use crate::lines::{ActorNo, MOST_ACTORS};
@@ -52,12 +53,27 @@ impl Actors {
     fn numbered(&mut self, name: Name) -> Result<ActorNo, LineFault>
         ensures { TellsWith self.new result (numbered self.old name) }
     {
-        let others = self.names.len();
-        if let Some(place) = self.names.iter().position(|known| *known == name) {
-            return Ok(ActorNo::after(place));
+        match place_of(&self.names, &name) {
+            Some(place) => Ok(ActorNo::after(place)),
+            None => self.add(name),
         }
+    }
+
+    /// The number of a new actor.
+    fn add(&mut self, name: Name) -> Result<ActorNo, LineFault>
+        ensures { TellsWith self.new result (numbered_by None self.old name) }
+    {
+        let others = self.names.len();
         fault_unless(others < MOST_ACTORS as usize, TextKind::TooMany)?;
         self.names.push(name)?;
         Ok(ActorNo::after(others))
     }
+}
+
+/// The place of a name among these.
+fn place_of(names: &[Name], name: &Name) -> Option<usize>
+    ensures place { result ≡ number_of names.now name.now }
+    ensures within { IfSome result (λ place. place < length names.now) }
+{
+    names.iter().position(|other| *other == *name)
 }

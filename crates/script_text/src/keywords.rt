@@ -1,5 +1,7 @@
 ghost use Rattle.std.specs.Prelude.{◌≡◌};
-ghost use Rattle.script_text.specs.Keywords.{keyword_of};
+ghost use Rattle.script_text.specs.Keywords.{keyword_of, spelling};
+
+use text_lines::is_same;
 
 /// What form a line of a script has.
 #[derive(Clone, Copy)]
@@ -23,30 +25,60 @@ pub(crate) enum Keyword {
     Level,
 }
 
+/// All forms. Most lines of a long script are the first ones.
+const KEYWORDS: [Keyword; 17] = [
+    Keyword::Cert,
+    Keyword::Join,
+    Keyword::Seed,
+    Keyword::Unseed,
+    Keyword::Table,
+    Keyword::Moment,
+    Keyword::Diary,
+    Keyword::Article,
+    Keyword::Reply,
+    Keyword::Project,
+    Keyword::Login,
+    Keyword::Logout,
+    Keyword::Freeze,
+    Keyword::Solve,
+    Keyword::Publish,
+    Keyword::Look,
+    Keyword::Level,
+];
+
 impl Keyword {
     /// The form of the lines with that first word; `None` where there is none.
     pub fn of(word: &[u8]) -> Option<Keyword>
         ensures { result ≡ keyword_of word.now }
     {
-        match word {
-            b"cert" => Some(Keyword::Cert),
-            b"join" => Some(Keyword::Join),
-            b"seed" => Some(Keyword::Seed),
-            b"unseed" => Some(Keyword::Unseed),
-            b"table" => Some(Keyword::Table),
-            b"moment" => Some(Keyword::Moment),
-            b"diary" => Some(Keyword::Diary),
-            b"article" => Some(Keyword::Article),
-            b"reply" => Some(Keyword::Reply),
-            b"project" => Some(Keyword::Project),
-            b"login" => Some(Keyword::Login),
-            b"logout" => Some(Keyword::Logout),
-            b"freeze" => Some(Keyword::Freeze),
-            b"solve" => Some(Keyword::Solve),
-            b"publish" => Some(Keyword::Publish),
-            b"look" => Some(Keyword::Look),
-            b"level" => Some(Keyword::Level),
-            _ => None,
+        KEYWORDS
+            .iter()
+            .copied()
+            .find(|keyword| is_same(keyword.spelling(), word))
+    }
+
+    /// How its first word is spelled.
+    fn spelling(self) -> &'static [u8]
+        ensures { result.now ≡ spelling self }
+    {
+        match self {
+            Keyword::Moment => b"moment",
+            Keyword::Join => b"join",
+            Keyword::Seed => b"seed",
+            Keyword::Unseed => b"unseed",
+            Keyword::Cert => b"cert",
+            Keyword::Table => b"table",
+            Keyword::Diary => b"diary",
+            Keyword::Article => b"article",
+            Keyword::Reply => b"reply",
+            Keyword::Project => b"project",
+            Keyword::Login => b"login",
+            Keyword::Logout => b"logout",
+            Keyword::Freeze => b"freeze",
+            Keyword::Solve => b"solve",
+            Keyword::Publish => b"publish",
+            Keyword::Look => b"look",
+            Keyword::Level => b"level",
         }
     }
 }
