@@ -1,5 +1,6 @@
 -- For the reader's own functions: a script while its lines are read.
-use Rattle.std.specs.Prelude.{◌≡◌, Vec}
+use Rattle.std.specs.Prelude.{◌≡◌}
+use Rattle.std.specs.Global.{Vec}
 use Rattle.script_text.specs.declared.lines.ScriptLine.{ScriptLine}
 use Rattle.script_text.specs.declared.reading.ScriptDraft.{ScriptDraft}
 use Rattle.script_text.specs.Scripts.{Lines}
