@@ -1,0 +1,5 @@
+mod Wording
+mod Acting
+mod Placing
+mod Counting
+mod Composing
