@@ -1,6 +1,6 @@
 //! What the places of a script's line hold.
 
-ghost use Rattle.std.specs.Prelude.{◌≡◌, ◌&&◌, nat_le, ◌==◌, ◌||◌, not, length, slice_index};
+ghost use Rattle.std.specs.Prelude.{◌≡◌};
 ghost use Rattle.std.specs.Char.{is_ascii_digit};
 ghost use Rattle.std.specs.List.{list_all};
 ghost use Rattle.text_lines.specs.Numbers.{is_numeral};
@@ -50,10 +50,7 @@ fn moment(word: &str) -> Option<u64>
 fn is_numeral(word: &[u8]) -> bool
     ensures { result ≡ is_numeral 12 word.now }
 {
-    1 <= word.len()
-        && word.len() <= 12
-        && are_digits(word)
-        && (word.len() == 1 || word[0] != b'0')
+    1 <= word.len() && word.len() <= 12 && are_digits(word) && (word.len() == 1 || word[0] != b'0')
 }
 
 fn are_digits(word: &[u8]) -> bool
