@@ -4,7 +4,7 @@ use Rattle.std.specs.Prelude.{ℕ, ◌≡◌, ◌≢◌, List, [], ◌∷◌, �
 use Rattle.std.specs.List.Sorted.{IsStrictlyIncreasing}
 use Rattle.trust_types.specs.declared.levels.Level.{Level}
 use Rattle.trust_types.specs.declared.records.Record.{Record}
-use Rattle.trust_types.specs.Kept.{IsMoment, kept_certificates, table_in_force, revision, upto}
+use Rattle.trust_types.specs.Kept.{kept_certificates, table_in_force, revision, upto}
 use Rattle.trust_types.specs.Roster.{IsRoster}
 use Rattle.trust_types.specs.Tables.{Table}
 use Rattle.frozen.specs.Revision.{Revision}
@@ -123,13 +123,3 @@ RunsTo lines s after before now = (t : Stage) × (added : List ℕ) × Run lines
 -- So did a first part of them.
 abbrev pub PartRunsTo : List ScriptLine → Stage → History → List ℕ → List ℕ → Type 0
 PartRunsTo lines s after before now = (first rest : List ScriptLine) × (lines ≡ first ++ rest) × RunsTo first s after before now
-
--- A moment that a line sets is within the limits.
-abbrev pub HasMoment : ScriptLine → Type 0
-HasMoment (line.Moment m) = IsMoment m
-HasMoment (line.Act act) = Unit {0}
-HasMoment (line.Freeze n) = Unit {0}
-HasMoment (line.Solve n) = Unit {0}
-HasMoment (line.Publish n) = Unit {0}
-HasMoment (line.Look n level) = Unit {0}
-HasMoment (line.Level word) = Unit {0}

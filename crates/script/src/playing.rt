@@ -1,11 +1,10 @@
 //! A script, played line by line.
 
 ghost use Rattle.std.specs.Prelude.{◌≡◌, OnOk, OnErr};
-ghost use Rattle.std.specs.List.{AllByRecursion};
 ghost use Rattle.trust_types.specs.Kept.{IsMoment};
 ghost use Rattle.site_core.specs.Books.{IsSound};
 ghost use Rattle.script.specs.Stages.{stage_of, stage_at_first};
-ghost use Rattle.script.specs.Runs.{HasMoment, PartRunsTo, Plays, RunsTo};
+ghost use Rattle.script.specs.Runs.{PartRunsTo, Plays, RunsTo};
 ghost use Rattle.script.specs.inner.Lines.{AddsLine};
 ghost use Rattle.script.specs.inner.Ready.{AreReady};
 
@@ -33,7 +32,6 @@ pub fn play<K: Keeper>(
     out: &mut Vec<u8>,
 ) -> Result<(), NoMemory>
     requires table { script.caps ≡ book.old.history.opening }
-    requires moments { AllByRecursion HasMoment script.lines.items }
     // The output is that of a run of the lines, which ends at the book's history; where memory ran out, of a first part of them.
     ensures run { OnOk result (RunsTo script.lines.items (stage_at_first book.old.history) book.new.history out.old.items out.new.items) }
     ensures part { OnErr result (PartRunsTo script.lines.items (stage_at_first book.old.history) book.new.history out.old.items out.new.items) }
@@ -54,7 +52,6 @@ fn play_lines<K: Keeper>(
     lines: Vec<ScriptLine>,
     out: &mut Vec<u8>,
 ) -> Result<(), NoMemory>
-    requires { AllByRecursion HasMoment lines.items }
     ensures run { OnOk result (RunsTo lines.items (stage_at_first book.old.history) book.new.history out.old.items out.new.items) }
     ensures part { OnErr result (PartRunsTo lines.items (stage_at_first book.old.history) book.new.history out.old.items out.new.items) }
     ensures found { book.new.found ≡ book.old.found }
@@ -78,7 +75,6 @@ fn play_line<K: Keeper>(
 ) -> Result<(), NoMemory>
     requires ready { AreReady book.old.history actors.old }
     requires moment { IsMoment moment.old }
-    requires timed { HasMoment line }
     ensures played { OnOk result (AddsLine (Plays (stage_of book.old.history actors.old moment.old) line (stage_of book.new.history actors.new moment.new)) out.old.items out.new.items) }
     ensures ready { OnOk result (AreReady book.new.history actors.new) }
     ensures moment { OnOk result (IsMoment moment.new) }
@@ -88,8 +84,8 @@ fn play_line<K: Keeper>(
     out.reserve(LONGEST_LINE + 1)?;
     match line {
         ScriptLine::Moment(later) => {
-            *moment = later;
-            put_line(out, &numbered("moment ", later));
+            *moment = later.seconds();
+            put_line(out, &numbered("moment ", *moment));
             Ok(())
         }
         ScriptLine::Act(act) => play_act(book, act, *moment, out),

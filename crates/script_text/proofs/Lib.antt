@@ -1,4 +1,3 @@
-mod Wording
 mod Acting
 mod Placing
 mod Counting

@@ -1,6 +1,5 @@
 -- What the lines of a script ask for, form by form.
 use Rattle.std.specs.Prelude.{ℕ, List, [], ◌∷◌, Option, Some, None, Result, Ok, Err, IsTrue, refl, replicate, if◌then◌else◌}
-use Rattle.std.specs.Option.{ok_or}
 use Rattle.trust_types.specs.declared.records.Secret.{Secret}
 use Rattle.trust_types.specs.declared.records.Secret.TheVariants.{Absent, Digest}
 use Rattle.trust_types.specs.Names.{is_name}
@@ -12,7 +11,6 @@ use Rattle.text_lines.specs.Faults.{kind_of_table}
 use Rattle.text_lines.specs.Places.{one_word, three_words}
 use Rattle.text_lines.specs.Steps.{◌>>=◌}
 use Rattle.site_lines.specs.Site.{numbers}
-use Rattle.site_history.specs.declared.acts.Act.{Act as SiteAct}
 use Rattle.site_history.specs.declared.commands.Author.{Author}
 use Rattle.site_history.specs.declared.commands.Author.TheVariants.{Named, Session}
 use Rattle.site_history.specs.declared.commands.Command.{Command}

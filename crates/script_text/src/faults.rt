@@ -1,7 +1,7 @@
 ghost use Rattle.std.specs.Prelude.{◌≡◌};
 ghost use Rattle.text_lines.specs.Reading.{fault_at};
 ghost use Rattle.script_text.specs.Faults.{fault_of};
-ghost use Rattle.script_text.specs.declared.faults.ScriptFault.TheVariants.{NoMemory as NoMemoryLeft, Text as TextOf};
+ghost use Rattle.script_text.specs.declared.faults.ScriptFault.TheVariants.{Text as TextOf};
 
 use text_lines::{LineFault, TextFault};
 

@@ -11,5 +11,5 @@ mod reading;
 mod words;
 
 pub use faults::ScriptFault;
-pub use lines::{ActorNo, MOST_ACTORS, ScriptLine, SiteScript};
+pub use lines::{ActorNo, MOST_ACTORS, Moment, ScriptLine, SiteScript};
 pub use reading::read_script;

@@ -1,6 +1,7 @@
 //! What a script asks for, line by line.
 
 ghost use Rattle.std.specs.Prelude.{◌≡◌, ◌≤◌, ◌<◌, ◌+◌};
+ghost use Rattle.trust_types.specs.Kept.{IsMoment};
 
 use site_history::Act;
 use std::marker::Model;
@@ -49,11 +50,47 @@ impl ActorNo {
     }
 }
 
+/// A moment: seconds after the beginning of 1970, at most the last second of the year 9999. Contracts see the number.
+#[derive(Clone, Copy, Debug, PartialEq, Eq)]
+pub struct Moment {
+    seconds: u64,
+}
+
+impl Model for Moment {
+    ghost use Rattle.std.specs.Prelude.{ℕ};
+    ghost use Rattle.trust_types.specs.Kept.{IsMoment};
+
+    ghost Value = { ℕ };
+
+    ghost view = { λ moment. moment.seconds };
+
+    ghost invariant = { λ moment. IsMoment moment.seconds };
+
+    ghost inverse = { λ seconds. record { seconds = seconds } };
+}
+
+impl Moment {
+    pub(crate) fn of(seconds: u64) -> Moment
+        requires { IsMoment seconds }
+        ensures { result ≡ seconds }
+    {
+        Moment { seconds }
+    }
+
+    /// The seconds.
+    pub fn seconds(self) -> u64
+        ensures value { result ≡ self }
+        ensures within { IsMoment result }
+    {
+        self.seconds
+    }
+}
+
 /// What a line of a script asks for.
 #[derive(Drop)]
 pub enum ScriptLine {
-    /// `moment`: the moment of the acts from here on, in seconds after 1970, at most the last second of the year 9999.
-    Moment(u64),
+    /// `moment`: the moment of the acts from here on.
+    Moment(Moment),
     /// An act of nobody's own: `join`, `seed`, `unseed`, `cert`, `table`, `diary`, `article`, `reply`, `project`, `login` or `logout`.
     Act(Act),
     /// `freeze`: the actor freezes the certificates, and keeps the graph.

@@ -1,12 +1,13 @@
 //! What the places of a script's line hold.
 
-ghost use Rattle.std.specs.Prelude.{◌≡◌, ◌&&◌, nat_le, ◌==◌, ◌||◌, not, length, slice_index};
+ghost use Rattle.std.specs.Prelude.{◌≡◌};
 ghost use Rattle.std.specs.Char.{is_ascii_digit};
 ghost use Rattle.std.specs.List.{list_all};
 ghost use Rattle.text_lines.specs.Numbers.{is_numeral};
 ghost use Rattle.script_text.specs.Places.{number_in, moment, moment_in, any_level, any_grade, text_in, token_in};
 ghost use Rattle.script_text.specs.inner.Reading.{Tells};
 
+use crate::lines::Moment;
 use hex::FromHex;
 use percent_encoding::{DecodeError, percent_decode_str};
 use sessions::Token;
@@ -22,7 +23,7 @@ pub(crate) fn number_in(word: &str) -> Result<u32, TextKind>
 }
 
 /// The moment that stands in a moment's place.
-pub(crate) fn moment_in(word: &str) -> Result<u64, TextKind>
+pub(crate) fn moment_in(word: &str) -> Result<Moment, TextKind>
     ensures { result ≡ moment_in word.now }
 {
     moment(word).ok_or(TextKind::BadNumber)
@@ -30,7 +31,7 @@ pub(crate) fn moment_in(word: &str) -> Result<u64, TextKind>
 
 /// The moment that a word of 1 to 12 digits writes.
 #[tactic(auto, unfolding(crate::specs::Places::moment))]
-fn moment(word: &str) -> Option<u64>
+fn moment(word: &str) -> Option<Moment>
     ensures { result ≡ moment word.now }
 {
     if !is_numeral(word.as_bytes()) {
@@ -40,7 +41,7 @@ fn moment(word: &str) -> Option<u64>
         return None;
     };
     if moment <= LAST_MOMENT {
-        Some(moment)
+        Some(Moment::of(moment))
     } else {
         None
     }
@@ -50,10 +51,7 @@ fn moment(word: &str) -> Option<u64>
 fn is_numeral(word: &[u8]) -> bool
     ensures { result ≡ is_numeral 12 word.now }
 {
-    1 <= word.len()
-        && word.len() <= 12
-        && are_digits(word)
-        && (word.len() == 1 || word[0] != b'0')
+    1 <= word.len() && word.len() <= 12 && are_digits(word) && (word.len() == 1 || word[0] != b'0')
 }
 
 fn are_digits(word: &[u8]) -> bool

@@ -1,6 +1,6 @@
 //! Scripts, read.
 
-ghost use Rattle.std.specs.Prelude.{◌≡◌, ◌+◌};
+ghost use Rattle.std.specs.Prelude.{◌+◌};
 ghost use Rattle.text_lines.specs.Words.{lines};
 ghost use Rattle.text_lines.specs.Reading.{reading, Reads, ReadsAll};
 ghost use Rattle.script_text.specs.Faults.{fault_of};

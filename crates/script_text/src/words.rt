@@ -7,7 +7,7 @@ ghost use Rattle.script_text.specs.Places.{line_words, one_or_two, two_words};
 
 use percent_encoding::ascii_str;
 use std::marker::Model;
-use text_lines::{TextKind, Words, fault_unless, is_line};
+use text_lines::{TextKind, Words, is_line};
 
 /// What is left of a line, of which one word after another is read as a text. It copies nothing. Contracts see the list of the
 /// words.

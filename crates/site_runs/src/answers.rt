@@ -51,13 +51,12 @@ fn tell(alloc: Global, fault: TextFault) -> Outcome
 
 /// Plays a script on the site that the keeper's rows are.
 fn open<K: Keeper>(alloc: Global, script: SiteScript, keeper: K) -> (Outcome, Kept<K>)
-    requires { HasMoments script.lines.items }
     ensures { (said : ScriptText) → IsScriptOf said script → ComesAfter K.rows K.faults (Ok said) keeper result.1 result.0 }
 {
     match Book::open(alloc, keeper, script.caps) {
         Ok(mut book) => {
             let mut text = Vec::new(alloc);
-            let status = match play(&mut book, script, &mut text) {
+            let status = match play(alloc, &mut book, script, &mut text) {
                 Ok(()) => Status::Done,
                 Err(NoMemory) => Status::NoMemory,
             };

@@ -15,6 +15,6 @@ pub returns-in-Err-Utf8 : goal.returns-in-Err-Utf8
 returns-in-Err-Utf8 c = λ kind e.
     let same : BadText ≡ kind = cc in
     text-other c.args.word.now (λ is.
-      let clash : ◌≡◌ {A = DecodeError} (Utf8 c.in-Err-Utf8.field-0-0) OutOfMemory =
-          sym c.in-Err-Utf8.field-0-is ∙ c.in-Err-Utf8.ensures.utf8 (subst IsUtf8 (sym c.percent_decode_str.ensures.bytes) is) in
-      cc) ∙ ap Err same
+    let clash : ◌≡◌ {A = DecodeError} (Utf8 c.in-Err-Utf8.field-0-0) OutOfMemory =
+    sym c.in-Err-Utf8.field-0-is ∙ c.in-Err-Utf8.ensures.utf8 (subst IsUtf8 (sym c.percent_decode_str.ensures.bytes) is) in
+    cc) ∙ ap Err same

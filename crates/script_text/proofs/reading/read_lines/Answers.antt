@@ -1,10 +1,10 @@
-use Rattle.std.proofs.Common.{ℕ, ◌≡◌, ◌+◌, List, ap, sym, ◌∙◌, subst, refl}
+use Rattle.std.proofs.Common.{ℕ, ◌+◌, List, ap, sym, ◌∙◌, refl}
 use Rattle.text_lines.specs.Words.{lines}
 use Rattle.text_lines.specs.Reading.{reading, fault_at}
 use Rattle.text_lines.proofs.Following.{reading-more, reading-end, reading-refused}
 use Rattle.script_text.specs.Faults.{fault_of}
-use Rattle.script_text.specs.Scripts.{script_line, no_lines, Lines}
-use Rattle.script_text.specs.inner.Drafts.{IsDraftOf, lines_of, AreAsked}
+use Rattle.script_text.specs.Scripts.{script_line, Lines}
+use Rattle.script_text.specs.inner.Drafts.{IsDraftOf, lines_of}
 use Rattle.script_text.proofs.reading.read_lines.Goals as goal
 
 pub loop-line-preserved : goal.loop-line-preserved
