@@ -1,5 +1,5 @@
 -- What a run comes to, over the keeper of a site's rows.
-use Rattle.std.specs.Prelude.{ℕ, Bool, true, false, ◌≡◌, ◌×◌, ◌⊎◌, ◌++◌, List, [], Option, Some, None, Result, Ok, Err, IfSome, codes, decimal}
+use Rattle.std.specs.Prelude.{ℕ, Bool, true, false, ◌≡◌, ◌⊎◌, ◌++◌, List, [], Option, Some, None, Result, Ok, Err, IfSome, codes, decimal}
 use Rattle.trust_types.specs.Tables.{Table}
 use Rattle.outside.specs.Causes.{HasCause}
 use Rattle.outside.specs.KeptRows.{ToldRows}
@@ -14,7 +14,7 @@ use Rattle.commands.specs.Commands.{command_of}
 use Rattle.commands.specs.Runs.{Input, Output, ComesWithin, ComesTo, IsTold}
 use Rattle.site_history.specs.Histories.{just_opened}
 use Rattle.site_core.specs.declared.opening.OpenFault.{OpenFault}
-use Rattle.site_core.specs.declared.opening.OpenFault.TheVariants as open
+use Rattle.site_core.specs.declared.opening.OpenFault.TheVariants as opens
 use Rattle.site_core.specs.Books as books
 use Rattle.site_core.specs.Opening.{Opens, RefusesRows, is_keeper_fault}
 use Rattle.script_text.specs.Scripts.{ScriptText, script}
@@ -30,10 +30,10 @@ MOST_SCRIPT_BYTES = 67108864
 
 -- The answer to rows over which no site is opened. Where memory ran out there is none.
 abbrev pub TellsUnopened : OpenFault → Answer → Type 0
-TellsUnopened open.Keeper answer = (answer.status ≡ status.KeeperFault) × (answer.text.items ≡ codes "keeper fault\n")
-TellsUnopened (open.BadRow n) answer = (answer.status ≡ status.BadRow) × (answer.text.items ≡ codes "bad row " ++ decimal n ++ codes "\n")
-TellsUnopened (open.Full n) answer = (answer.status ≡ status.RowsFull) × (answer.text.items ≡ codes "row " ++ decimal n ++ codes " passes a limit\n")
-TellsUnopened open.NoMemory answer = ⊥
+TellsUnopened opens.Keeper answer = (answer.status ≡ status.KeeperFault) × (answer.text.items ≡ codes "keeper fault\n")
+TellsUnopened (opens.BadRow n) answer = (answer.status ≡ status.BadRow) × (answer.text.items ≡ codes "bad row " ++ decimal n ++ codes "\n")
+TellsUnopened (opens.Full n) answer = (answer.status ≡ status.RowsFull) × (answer.text.items ≡ codes "row " ++ decimal n ++ codes " passes a limit\n")
+TellsUnopened opens.NoMemory answer = ⊥
 
 module _ {K : Type 0} (rows : K → ToldRows) (faults : K → ℕ) where
   -- No site was opened over the keeper, which has its rows as they were: its first row that is refused, or a fault that it counted.

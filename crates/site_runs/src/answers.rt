@@ -22,7 +22,7 @@ use trust_types::NoMemory;
 pub fn answer<K: Keeper>(alloc: Global, bytes: Vec<u8>, keeper: K) -> (Outcome, Kept<K>)
     ensures { ComesAfter K.rows K.faults (script bytes.items) keeper result.1 result.0 }
 {
-    match into_script(bytes) {
+    match into_script(alloc, bytes) {
         Ok(script) => open(alloc, script, keeper),
         Err(ScriptFault::Text(fault)) => (tell(alloc, fault), Kept::Keeper(keeper)),
         Err(ScriptFault::NoMemory) => (Outcome::OutOfMemory, Kept::Keeper(keeper)),
@@ -30,10 +30,10 @@ pub fn answer<K: Keeper>(alloc: Global, bytes: Vec<u8>, keeper: K) -> (Outcome, 
 }
 
 /// The script that the bytes are. It drops them.
-fn into_script(bytes: Vec<u8>) -> Result<SiteScript, ScriptFault>
+fn into_script(alloc: Global, bytes: Vec<u8>) -> Result<SiteScript, ScriptFault>
     ensures { ReadsAll (λ script said. IsScriptOf said script) fault_of result (script bytes.items) }
 {
-    read_script(&bytes)
+    read_script(alloc, &bytes)
 }
 
 /// The fault of a text, as it is told.
@@ -60,10 +60,7 @@ fn open<K: Keeper>(alloc: Global, script: SiteScript, keeper: K) -> (Outcome, Ke
                 Ok(()) => Status::Done,
                 Err(NoMemory) => Status::NoMemory,
             };
-            (
-                Outcome::Answered(Answer { status, text }),
-                Kept::Book(book),
-            )
+            (Outcome::Answered(Answer { status, text }), Kept::Book(book))
         }
         Err(Unopened { fault, keeper }) => (refuse(alloc, fault), Kept::Keeper(keeper)),
     }
@@ -76,11 +73,17 @@ fn refuse(alloc: Global, fault: OpenFault) -> Outcome
     let (status, text) = match fault {
         OpenFault::Keeper => (Status::KeeperFault, format!(in alloc; "keeper fault\n")),
         OpenFault::BadRow(number) => (Status::BadRow, format!(in alloc; "bad row {number}\n")),
-        OpenFault::Full(number) => (Status::RowsFull, format!(in alloc; "row {number} passes a limit\n")),
+        OpenFault::Full(number) => (
+            Status::RowsFull,
+            format!(in alloc; "row {number} passes a limit\n"),
+        ),
         OpenFault::NoMemory => return Outcome::OutOfMemory,
     };
     match text {
-        Ok(text) => Outcome::Answered(Answer { status, text: text.into_bytes() }),
+        Ok(text) => Outcome::Answered(Answer {
+            status,
+            text: text.into_bytes(),
+        }),
         Err(_) => Outcome::OutOfMemory,
     }
 }

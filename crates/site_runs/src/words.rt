@@ -4,15 +4,15 @@ ghost use Rattle.std.specs.Prelude.{◌≡◌, ◌∷◌, [], map, Some, None, I
 ghost use Rattle.site_runs.specs.Words.{file_of, is_script, wants_of};
 
 use std::alloc::Global;
-use trust_types::NoMemory;
+use trust_types::{NoMemory, Text};
 
 /// What the program needs for its words, before it runs.
-#[derive(Debug, Drop, PartialEq, Eq)]
+#[derive(Drop)]
 pub enum Wants {
     /// Nothing but its input and output.
     Run,
     /// The file in which the rows of a site are kept.
-    RunOn(String),
+    RunOn(Text),
 }
 
 /// The file that the words `script --db FILE` name; `None` for other words, and where FILE is empty.
@@ -50,7 +50,7 @@ pub fn wants(alloc: Global, words: &[&str]) -> Result<Wants, NoMemory>
     ensures { IfOk result (λ wants. wants ≡ wants_of (map (λ word. word.now) words.now)) }
 {
     match file_of(words) {
-        Some(file) => Ok(Wants::RunOn(String::from_in(file, alloc)?)),
+        Some(file) => Ok(Wants::RunOn(Text::of(alloc, file)?)),
         None => Ok(Wants::Run),
     }
 }
