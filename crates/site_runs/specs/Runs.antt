@@ -12,11 +12,13 @@ use Rattle.commands.specs.declared.status.Status.TheVariants as status
 use Rattle.commands.specs.Answers.{TellsFault}
 use Rattle.commands.specs.Commands.{command_of}
 use Rattle.commands.specs.Runs.{Input, Output, ComesWithin, ComesTo, IsTold}
-use Rattle.site_history.specs.Histories.{just_opened}
+use Rattle.trust_types.specs.declared.records.Record.{Record}
+use Rattle.site_history.specs.Histories.{History, just_opened}
 use Rattle.site_core.specs.declared.opening.OpenFault.{OpenFault}
 use Rattle.site_core.specs.declared.opening.OpenFault.TheVariants as opens
 use Rattle.site_core.specs.Books as books
 use Rattle.site_core.specs.Opening.{Opens, RefusesRows, is_keeper_fault}
+use Rattle.script_text.specs.declared.lines.ScriptLine.{ScriptLine}
 use Rattle.script_text.specs.Scripts.{ScriptText, script}
 use Rattle.script.specs.Runs as scripts
 use Rattle.script.specs.Stages.{stage_at_first}
@@ -35,6 +37,12 @@ TellsUnopened (opens.BadRow n) answer = (answer.status ≡ status.BadRow) × (an
 TellsUnopened (opens.Full n) answer = (answer.status ≡ status.RowsFull) × (answer.text.items ≡ codes "row " ++ decimal n ++ codes " passes a limit\n")
 TellsUnopened opens.NoMemory answer = ⊥
 
+-- The answer has the output of the lines, which led from a history to another: of all of them, or of a first part, behind which memory ran out.
+abbrev pub IsRunOf : List ScriptLine → History → History → Answer → Type 0
+IsRunOf lines before after answer =
+    ((answer.status ≡ status.Done) × scripts.RunsTo lines (stage_at_first before) after [] answer.text.items)
+    ⊎ ((answer.status ≡ status.NoMemory) × scripts.PartRunsTo lines (stage_at_first before) after [] answer.text.items)
+
 module _ {K : Type 0} (rows : K → ToldRows) (faults : K → ℕ) where
   -- No site was opened over the keeper, which has its rows as they were: its first row that is refused, or a fault that it counted.
   pub record IsUnopened (table : Table) (keeper back : K) (fault : OpenFault) : Type 0 where
@@ -42,13 +50,13 @@ module _ {K : Type 0} (rows : K → ToldRows) (faults : K → ℕ) where
     pub same : rows back ≡ rows keeper
     pub cause : HasCause (faults keeper) (faults back) (is_keeper_fault fault)
 
-  -- The script was played on the site that the keeper's rows are: all of it, or a first part, behind which memory ran out. The answer has its output.
+  -- The script was played on the site that the keeper's rows are, of which a book tells what came of it.
   pub record IsPlayed (said : ScriptText) (keeper : K) (book : books.Kept K) (answer : Answer) : Type 0 where
     pub found : book.found ≡ keeper
     pub sound : books.IsSound rows faults book
-    pub opened : IfSome (rows keeper) (λ told. Opens said.table told book.history.opened)
-    pub played : ((answer.status ≡ status.Done) × scripts.RunsTo said.lines (stage_at_first (just_opened said.table book.history.opened)) book.history [] answer.text.items)
-        ⊎ ((answer.status ≡ status.NoMemory) × scripts.PartRunsTo said.lines (stage_at_first (just_opened said.table book.history.opened)) book.history [] answer.text.items)
+    pub opened : List Record
+    pub opens : IfSome (rows keeper) (λ told. Opens said.table told opened)
+    pub run : IsRunOf said.lines (just_opened said.table opened) book.history answer
 
   -- The answer to a script, by what became of the keeper.
   abbrev pub AnswersLines : ScriptText → K → Kept K → Answer → Type 0

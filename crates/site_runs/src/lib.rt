@@ -8,4 +8,4 @@ mod words;
 
 pub use ran::{Kept, Ran};
 pub use running::run;
-pub use words::{Wants, wants};
+pub use words::Wants;

@@ -42,15 +42,17 @@ pub(crate) fn is_script(words: &[&str]) -> bool
     }
 }
 
-/// What the program needs for these words: a file exactly for `script --db FILE` with a FILE that isn't empty.
-///
-/// # Errors
-/// [`NoMemory`] where there isn't enough for the file's name.
-pub fn wants(alloc: Global, words: &[&str]) -> Result<Wants, NoMemory>
-    ensures { IfOk result (λ wants. wants ≡ wants_of (map (λ word. word.now) words.now)) }
-{
-    match file_of(words) {
-        Some(file) => Ok(Wants::RunOn(Text::of(alloc, file)?)),
-        None => Ok(Wants::Run),
+impl Wants {
+    /// What the program needs for these words: a file exactly for `script --db FILE` with a FILE that isn't empty.
+    ///
+    /// # Errors
+    /// [`NoMemory`] where there isn't enough for the file's name.
+    pub fn of_words(alloc: Global, words: &[&str]) -> Result<Wants, NoMemory>
+        ensures { IfOk result (λ wants. wants ≡ wants_of (map (λ word. word.now) words.now)) }
+    {
+        match file_of(words) {
+            Some(file) => Ok(Wants::RunOn(Text::of(alloc, file)?)),
+            None => Ok(Wants::Run),
+        }
     }
 }

@@ -8,7 +8,7 @@ ghost use Rattle.commands.specs.Outcomes.{code_after};
 use commands::Status;
 use keeper_sqlite::SqliteKeeper;
 use outside::{Keeper, MemKeeper, StdSink, StdSource};
-use site_runs::{Wants, run, wants};
+use site_runs::{Wants, run};
 use std::env;
 use std::io::ErrorKind;
 use std::process::ExitCode;
@@ -37,7 +37,7 @@ fn start(rt: &HostRuntime) -> Result<Status, NoMemory> {
         Err(_) => Vec::new(alloc),
     };
     let words: Vec<&str> = owned.iter().map(|word| word.as_str()).collect(alloc)?;
-    match wants(alloc, &words)? {
+    match Wants::of_words(alloc, &words)? {
         Wants::Run => {
             let keeper = MemKeeper::new(alloc, Vec::new(alloc), Vec::new(alloc));
             Ok(run_over(rt, &words, keeper))

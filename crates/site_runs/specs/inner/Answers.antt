@@ -1,12 +1,10 @@
--- What an answer that takes memory says.
+-- An answer that takes memory.
+use Rattle.std.specs.Prelude.{Result, Ok, Err}
 use Rattle.commands.specs.declared.outcome.Answer.{Answer}
 use Rattle.commands.specs.declared.outcome.Outcome.{Outcome}
-use Rattle.commands.specs.declared.outcome.Outcome.TheVariants.{Answered, Misused, TooLong, Unread, OutOfMemory}
+use Rattle.commands.specs.declared.outcome.Outcome.TheVariants.{Answered, OutOfMemory}
 
--- The answer says this, or memory ran out.
-abbrev pub IsTold : (Answer → Type 0) → Outcome → Type 0
-IsTold Says (Answered answer) = Says answer
-IsTold Says Misused = ⊥
-IsTold Says TooLong = ⊥
-IsTold Says Unread = ⊥
-IsTold Says OutOfMemory = Unit {0}
+-- The answer, or that memory ran out.
+abbrev pub outcome_of : {E : Type 0} → Result Answer E → Outcome
+outcome_of (Ok answer) = Answered answer
+outcome_of (Err refusal) = OutOfMemory
