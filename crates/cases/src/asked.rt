@@ -16,6 +16,10 @@ pub struct Asked<'a> {
     pub length: usize,
     /// Whether what it writes goes through `check`.
     pub is_checked: bool,
+    /// The calls on the keeper of its site's rows that fail, fetches and appends.
+    pub keeps: Vec<u64>,
+    /// Whether the rows that the keeper has at its end are printed.
+    pub shows_rows: bool,
 }
 
 impl<'a> Asked<'a> {
@@ -31,6 +35,8 @@ impl<'a> Asked<'a> {
             room: 65_536,
             length: 0,
             is_checked: false,
+            keeps: Vec::new(alloc),
+            shows_rows: false,
         };
         for part in parts {
             asked.note(part.trim())?;
@@ -45,11 +51,15 @@ impl<'a> Asked<'a> {
             self.reads.push(number.parse().unwrap_or(0))?;
         } else if let Some(number) = part.strip_prefix("write fails at ") {
             self.writes.push(number.parse().unwrap_or(0))?;
+        } else if let Some(number) = part.strip_prefix("keeper fails at ") {
+            self.keeps.push(number.parse().unwrap_or(0))?;
         } else if let Some(room) = part.strip_prefix("room for ") {
             self.room = room.parse().unwrap_or(0);
         } else if let Some(length) = part.strip_suffix(" bytes") {
             self.length = length.parse().unwrap_or(0);
             self.piece = Some(65_536);
+        } else if part == "then rows" {
+            self.shows_rows = true;
         } else {
             self.is_checked = part == "then check";
         }

@@ -2,8 +2,9 @@
 //!
 //! The input is told line by line, and each line is printed again. Behind a `|` and a space stands a line of the input of the runs that
 //! follow, up to the next such line behind a run; `\` and two hexadecimal digits are a byte, and a `\` at the end leaves the LF out. A line
-//! `=` puts the input so far in front of all later ones, in place of what stood there. Behind a `$` stand the words of a run, and behind
-//! commas what its source and sink are like. What it writes is printed then, and its status in brackets.
+//! `=` puts the input so far in front of all later ones, in place of what stood there. Behind a `+` and a space stands a row that the keeper of the next run
+//! has; a `+` alone stands for the rows that the last one's had at its end. Behind a `$` stand the words of a run, and behind commas what its source, its
+//! sink and its keeper are like. What it writes is printed then, its status in brackets, and where that is asked for the rows that its keeper has then.
 #![tactic(auto)]
 
 mod asked;
@@ -13,7 +14,7 @@ use asked::Asked;
 use outside::{StdSink, StdSource, read_to_end, write_all};
 use std::alloc::Global;
 use std::process::ExitCode;
-use trials::Told;
+use trials::{Told, copy_of};
 use trust_types::NoMemory;
 
 /// The most bytes of a text.
@@ -44,6 +45,8 @@ struct Script {
     front: Vec<u8>,
     input: Vec<u8>,
     has_run: bool,
+    rows: Vec<Vec<u8>>,
+    left: Vec<Vec<u8>>,
 }
 
 impl Script {
@@ -53,6 +56,8 @@ impl Script {
             front: Vec::new(alloc),
             input: Vec::new(alloc),
             has_run: false,
+            rows: Vec::new(alloc),
+            left: Vec::new(alloc),
         }
     }
 
@@ -70,6 +75,10 @@ impl Script {
         } else if let Some(rest) = line.strip_prefix("|") {
             self.begin_input();
             push_input(&mut self.input, rest.strip_prefix(" ").unwrap_or(rest))?;
+        } else if let Some(row) = line.strip_prefix("+ ") {
+            self.rows.push(row.as_bytes().to_vec(alloc)?)?;
+        } else if line == "+" {
+            self.rows = copy_of(alloc, &self.left)?;
         }
         Ok(())
     }
@@ -87,8 +96,23 @@ impl Script {
         let asked = Asked::of(alloc, words)?;
         let mut bytes = self.front.to_vec(alloc)?;
         bytes.extend_from_slice(&self.input)?;
-        let told = asked.try_out(alloc, &bytes)?;
-        self.print(alloc, &told)
+        let told = asked.try_out(alloc, &bytes, &self.rows)?;
+        self.print(alloc, &told)?;
+        if asked.shows_rows {
+            self.print_rows(&told.rows)?;
+        }
+        self.rows.clear();
+        self.left = told.rows;
+        Ok(())
+    }
+
+    fn print_rows(&mut self, rows: &[Vec<u8>]) -> Result<(), NoMemory> {
+        for row in rows {
+            self.printed.extend_from_slice(b"+ ")?;
+            self.printed.extend_from_slice(row)?;
+            self.printed.push(b'\n')?;
+        }
+        Ok(())
     }
 
     fn print(&mut self, alloc: Global, told: &Told) -> Result<(), NoMemory> {

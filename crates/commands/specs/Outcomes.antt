@@ -1,7 +1,7 @@
 -- What a run comes to before anything is written: a status, and the text to write.
 use Rattle.std.specs.Prelude.{ℕ, List, [], codes, Result, Ok, Err}
 use Rattle.commands.specs.declared.status.Status.{Status}
-use Rattle.commands.specs.declared.status.Status.TheVariants.{Done, No, Usage, Text, InputFull, ReadFault, WriteFault, NoMemory}
+use Rattle.commands.specs.declared.status.Status.TheVariants.{Done, No, Usage, Text, InputFull, ReadFault, WriteFault, KeeperFault, BadRow, NoMemory, RowsFull}
 use Rattle.commands.specs.declared.outcome.Outcome.{Outcome}
 use Rattle.commands.specs.declared.outcome.Outcome.TheVariants as run
 
@@ -31,7 +31,10 @@ code_of Text = 3
 code_of InputFull = 4
 code_of ReadFault = 5
 code_of WriteFault = 6
+code_of KeeperFault = 7
+code_of BadRow = 8
 code_of NoMemory = 9
+code_of RowsFull = 11
 
 -- The number with which the process ends; where the run couldn't start, memory ran out.
 abbrev pub code_after : {E : Type 0} → Result Status E → ℕ

@@ -6,6 +6,7 @@ use Rattle.outside.specs.Causes.{one_more}
 use Rattle.commands.specs.declared.command.Command.{Command}
 use Rattle.commands.specs.declared.status.Status.{Status}
 use Rattle.commands.specs.declared.status.Status.TheVariants.{WriteFault}
+use Rattle.commands.specs.declared.outcome.Answer.{Answer}
 use Rattle.commands.specs.declared.outcome.Outcome.{Outcome}
 use Rattle.commands.specs.declared.outcome.Outcome.TheVariants.{Answered, Misused, TooLong, Unread, OutOfMemory}
 use Rattle.commands.specs.Commands.{limit_of}
@@ -30,24 +31,31 @@ pub record IsWholeInput (limit : ℕ) (before now : Input) (bytes : List ℕ) : 
   pub ended : now.ends ≡ one_more before.ends
   pub faultless : now.faults ≡ before.faults
 
--- What a command comes to, by what it took from the source. Memory runs out before the input's end was met, or after the whole input
--- was read.
+-- What is done with at most so many bytes comes to, by what it took from the source and by what its answers say of them. Memory runs out before the
+-- input's end was met, or after the whole input was read.
+abbrev pub ComesWithin : ℕ → (List ℕ → Answer → Type 0) → Input → Input → Outcome → Type 0
+ComesWithin limit Says before now (Answered answer) = (bytes : List ℕ) × IsWholeInput limit before now bytes × Says bytes answer
+ComesWithin limit Says before now Misused = ⊥
+ComesWithin limit Says before now TooLong = TakesCount before.left now.left (limit + 1) × (now.faults ≡ before.faults) × (now.ends ≡ before.ends)
+ComesWithin limit Says before now Unread = TakesAtMost before.left now.left limit × (now.faults ≡ one_more before.faults) × (now.ends ≡ before.ends)
+ComesWithin limit Says before now OutOfMemory =
+    TakesAtMost before.left now.left limit × (now.faults ≡ before.faults) × ((now.ends ≡ before.ends) ⊎ ((bytes : List ℕ) × IsWholeInput limit before now bytes))
+
+-- What a command comes to.
 abbrev pub Comes : Command → Input → Input → Outcome → Type 0
-Comes command before now (Answered answer) =
-    (bytes : List ℕ) × IsWholeInput (limit_of command) before now bytes × Answers command bytes answer
-Comes command before now Misused = ⊥
-Comes command before now TooLong = TakesCount before.left now.left (limit_of command + 1) × (now.faults ≡ before.faults) × (now.ends ≡ before.ends)
-Comes command before now Unread = TakesAtMost before.left now.left (limit_of command) × (now.faults ≡ one_more before.faults) × (now.ends ≡ before.ends)
-Comes command before now OutOfMemory = TakesAtMost before.left now.left (limit_of command) × (now.faults ≡ before.faults)
-    × ((now.ends ≡ before.ends) ⊎ ((bytes : List ℕ) × IsWholeInput (limit_of command) before now bytes))
+Comes command before now outcome = ComesWithin (limit_of command) (Answers command) before now outcome
 
 -- What the words come to. Where they are no command nothing is read.
 abbrev pub ComesTo : Option Command → Input → Input → Outcome → Type 0
 ComesTo None before now outcome = (outcome ≡ Misused) × (now ≡ before)
 ComesTo (Some command) before now outcome = Comes command before now outcome
 
--- The outcome's text was written whole, and its status answered; or a write failed, and a part of the text was written.
+-- A text was written whole, and the status that goes with it answered; or a write failed, and a part of the text was written.
+abbrev pub IsWritten : Status → List ℕ → Output → Output → Status → Type 0
+IsWritten meant text before now status =
+    ((status ≡ meant) × (now.held ≡ append_known before.held text) × (now.faults ≡ before.faults))
+    ⊎ ((status ≡ WriteFault) × AppendsPart before.held now.held text × (now.faults ≡ one_more before.faults))
+
+-- The outcome's text was written, and its status answered; or a write failed.
 abbrev pub IsTold : Outcome → Output → Output → Status → Type 0
-IsTold outcome before now status =
-    ((status ≡ status_of outcome) × (now.held ≡ append_known before.held (text_of outcome)) × (now.faults ≡ before.faults))
-    ⊎ ((status ≡ WriteFault) × AppendsPart before.held now.held (text_of outcome) × (now.faults ≡ one_more before.faults))
+IsTold outcome before now status = IsWritten (status_of outcome) (text_of outcome) before now status

@@ -18,8 +18,14 @@ pub enum Status {
     ReadFault = 5,
     /// A write failed. It takes the place of any other status.
     WriteFault = 6,
+    /// A call on the keeper of a site's rows failed, and no site was opened.
+    KeeperFault = 7,
+    /// A row of a site's keeper doesn't continue those before it.
+    BadRow = 8,
     /// Memory ran out.
     NoMemory = 9,
+    /// A row of a site's keeper passes a limit.
+    RowsFull = 11,
 }
 
 impl Status {

@@ -5,5 +5,5 @@ mod faults;
 mod reading;
 
 pub use faults::SiteFault;
-pub use reading::{read_proof, read_site};
+pub use reading::{read_head, read_proof, read_site};
 pub use text_lines::{TextFault, TextKind};

@@ -49,8 +49,11 @@ struct Claimed {
 }
 
 /// Reads a text's head, which is its table: the first line, and the second where that says how many levels there are.
+///
+/// # Errors
+/// The fault of the first line, else that of the second.
 #[tactic(auto, unfolding(crate::specs::Site::table_of))]
-fn read_head(text: &mut Lines) -> Result<Caps, TextFault>
+pub fn read_head(text: &mut Lines) -> Result<Caps, TextFault>
     requires start { text.old.number ≡ 0 }
     ensures table { result ≡ table_of (lines text.old.bytes) }
     ensures left { OnOk result (lines text.new.bytes ≡ behind_head (lines text.old.bytes)) }

@@ -5,8 +5,10 @@ ghost use Rattle.std.specs.Prelude.{◌≡◌};
 ghost use Rattle.std.specs.Process.{exit_status};
 ghost use Rattle.commands.specs.Outcomes.{code_after};
 
-use commands::{Status, run};
-use outside::{StdSink, StdSource};
+use commands::Status;
+use keeper_sqlite::SqliteKeeper;
+use outside::{Keeper, MemKeeper, StdSink, StdSource};
+use site_runs::{Wants, run};
 use std::env;
 use std::io::ErrorKind;
 use std::process::ExitCode;
@@ -26,7 +28,7 @@ fn exit_of(started: Result<Status, NoMemory>) -> ExitCode
     }
 }
 
-/// Runs over the standard input and output with the words of the command line. Words that are no text are as none.
+/// Runs with the words of the command line. Words that are no text are as none. A site's rows are kept in the file that the words name, else in memory.
 fn start(rt: &HostRuntime) -> Result<Status, NoMemory> {
     let alloc = rt.alloc();
     let owned: Vec<String> = match env::args(rt) {
@@ -35,7 +37,18 @@ fn start(rt: &HostRuntime) -> Result<Status, NoMemory> {
         Err(_) => Vec::new(alloc),
     };
     let words: Vec<&str> = owned.iter().map(|word| word.as_str()).collect(alloc)?;
+    match Wants::of_words(alloc, &words)? {
+        Wants::Run => {
+            let keeper = MemKeeper::new(alloc, Vec::new(alloc), Vec::new(alloc));
+            Ok(run_over(rt, &words, keeper))
+        }
+        Wants::RunOn(file) => Ok(run_over(rt, &words, SqliteKeeper::open_file(rt, &file))),
+    }
+}
+
+/// Runs over the standard input and output, and this keeper.
+fn run_over<K: Keeper>(rt: &HostRuntime, words: &[&str], keeper: K) -> Status {
     let mut source = StdSource::new(rt);
     let mut sink = StdSink::new(rt);
-    Ok(run(alloc, &words, &mut source, &mut sink))
+    run(rt.alloc(), words, &mut source, &mut sink, keeper).status
 }

@@ -1,0 +1,4 @@
+pub mod Sizes
+pub mod Growing
+pub mod Running
+pub mod Looking

@@ -1,0 +1,4 @@
+pub mod Stages
+pub mod Outputs
+pub mod Runs
+pub mod inner

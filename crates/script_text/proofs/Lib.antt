@@ -1,0 +1,4 @@
+mod Acting
+mod Placing
+mod Counting
+mod Composing

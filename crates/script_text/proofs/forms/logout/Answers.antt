@@ -1,0 +1,5 @@
+use Rattle.std.proofs.Common.{refl, sym}
+use Rattle.script_text.proofs.forms.logout.Goals as goal
+
+pub returns : goal.returns
+returns c = rw (c.act.ensures refl, c.in_ok-of.ensures, c.in_ok-name.ensures.words, sym c.in_ok-token.ensures) refl

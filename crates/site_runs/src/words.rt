@@ -1,0 +1,58 @@
+//! What the words of a command line ask of a site.
+
+ghost use Rattle.std.specs.Prelude.{◌≡◌, ◌∷◌, [], map, Some, None, IfOk, MatchOption, IsTrue, is_some};
+ghost use Rattle.site_runs.specs.Words.{file_of, is_script, wants_of};
+
+use std::alloc::Global;
+use trust_types::{NoMemory, Text};
+
+/// What the program needs for its words, before it runs.
+#[derive(Drop)]
+pub enum Wants {
+    /// Nothing but its input and output.
+    Run,
+    /// The file in which the rows of a site are kept.
+    RunOn(Text),
+}
+
+/// The file that the words `script --db FILE` name; `None` for other words, and where FILE is empty.
+fn file_of<'w>(words: &[&'w str]) -> Option<&'w str>
+    ensures { MatchOption result (file_of (map (λ word. word.now) words.now) ≡ None) (λ file. file_of (map (λ word. word.now) words.now) ≡ Some file.now) }
+{
+    match words {
+        [command, option, file] if is_script_on(command, option, file) => Some(file),
+        _ => None,
+    }
+}
+
+fn is_script_on(command: &str, option: &str, file: &str) -> bool
+    ensures { result ≡ is_some (file_of (command.now ∷ option.now ∷ file.now ∷ [])) }
+{
+    command == "script" && option == "--db" && !file.is_empty()
+}
+
+/// Whether the words ask for a script to be played: `script`, or `script --db FILE`.
+pub(crate) fn is_script(words: &[&str]) -> bool
+    ensures { result ≡ is_script (map (λ word. word.now) words.now) }
+{
+    match words {
+        [command] => *command == "script",
+        [command, option, file] => is_script_on(command, option, file),
+        _ => false,
+    }
+}
+
+impl Wants {
+    /// What the program needs for these words: a file exactly for `script --db FILE` with a FILE that isn't empty.
+    ///
+    /// # Errors
+    /// [`NoMemory`] where there isn't enough for the file's name.
+    pub fn of_words(alloc: Global, words: &[&str]) -> Result<Wants, NoMemory>
+        ensures { IfOk result (λ wants. wants ≡ wants_of (map (λ word. word.now) words.now)) }
+    {
+        match file_of(words) {
+            Some(file) => Ok(Wants::RunOn(Text::of(alloc, file)?)),
+            None => Ok(Wants::Run),
+        }
+    }
+}
