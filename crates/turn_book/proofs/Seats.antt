@@ -1,5 +1,5 @@
 -- What a seat knows between its calls, and what a call does to it.
-use Rattle.std.proofs.Common.{◌≡◌, ◌≢◌, ℕ, ◌+◌, ◌<◌, ◌≤◌, false, List, [], ◌∷◌, ◌++◌, length, refl, sym, ap, ◌∙◌, subst, arith, length-append}
+use Rattle.std.proofs.Common.{◌≡◌, ◌≢◌, ℕ, ◌+◌, ◌<◌, ◌≤◌, false, List, [], ◌∷◌, ◌++◌, length, Result, Ok, Err, IfOk, OnErr, refl, sym, ap, ◌∙◌, subst, arith, length-append}
 use Rattle.atomic_table.specs.Seated.{TableId}
 use Rattle.site_history.specs.declared.acts.Act.{Act}
 use Rattle.site_history.specs.declared.replies.Reply.{Reply}
@@ -8,9 +8,10 @@ use Rattle.site_history.specs.Answers.{entry_of}
 use Rattle.site_history.specs.Histories.{Entry, History, places, with_entry}
 use Rattle.site_history.specs.Legal.{IsLegal}
 use Rattle.site_history.proofs.Growing.{places-add}
-use Rattle.turn_book.specs.Seats.{Seated, Adds, caller_of, made_by}
+use Rattle.turn_book.specs.Seats.{Seated, Adds, Looks, StartsWith, caller_of, made_by}
 use Rattle.turn_book.specs.inner.Known.{Known, knows, Unborne, Later, IsIdle}
 use Rattle.turn_book.specs.inner.Turns.{newcomer}
+use Rattle.turn_book.proofs.Keeps.{starts_more}
 use Rattle.turn_book.proofs.Places.{made-opened, made-own, made-other}
 
 -- who acts made the entry, whatever the reply
@@ -89,3 +90,12 @@ module _ {C : Type 0} where
         ends = grows;
         one_made = subst (λ (n : ℕ). made_by v.base n next ≡ made_by v.base n v.seen ++ places h ∷ []) (sym low_is) (adds_mine v h next e l grows by);
       })
+
+-- After a call that adds an entry or only looks, a seat has seen a history that begins with what it had seen.
+pub adds_begins : (s t : Seated) (before : History) (e : Entry) → Adds s before e t → StartsWith t.seen s.seen
+adds_begins s t before e is = subst (λ (h : History). StartsWith h s.seen) (sym is.ends) (starts_more before s.seen e is.begins)
+
+pub goes_on : {A B : Type 0} {P : History → A → Type 0} (result : Result A B) (s t : Seated) (entry : History → A → Entry)
+    → IfOk result (λ a. (before : History) × P before a × Adds s before (entry before a) t) → OnErr result (Looks s t) → (t.site ≡ s.site) × StartsWith t.seen s.seen
+goes_on (Ok a) s t entry (before, because, is) none = (is.same.site, adds_begins s t before (entry before a) is)
+goes_on (Err fault) s t entry none is = (is.same.site, is.begins)
