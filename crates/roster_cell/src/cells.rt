@@ -81,6 +81,8 @@ pub fn latest<'c, K: Keeper>(
     ensures latest { IfOk result (λ found. MatchOption found (publications seat.new.seen ≡ []) (λ q. IsLatest seat.new.seen q.now)) }
     ensures moved { IfErr result (λ moved. (moved.held ≡ number_of cache.now) × (moved.shown ≡ length (publications seat.new.seen)) × (moved.held ≢ moved.shown)) }
 {
+    // Its contract says that what the seat has seen is legal.
+    let _number = seat.number();
     let front = site.news(seat);
     let held = cache.number();
     if held == front.publications {
@@ -110,6 +112,8 @@ pub fn refresh<K: Keeper, R: Wait>(
     ensures latest { IfOk result (λ _. number_of cache.new ≡ length (publications seat.new.seen)) }
     ensures same { OnErr result (cache.new ≡ cache.old) }
 {
+    // Its contract says that what the seat has seen is legal.
+    let _number = seat.number();
     match site.fetch(rt, seat) {
         Ok(found) => {
             cache.held = found;

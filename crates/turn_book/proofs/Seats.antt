@@ -95,7 +95,7 @@ module _ {C : Type 0} where
 pub adds_begins : (s t : Seated) (before : History) (e : Entry) → Adds s before e t → StartsWith t.seen s.seen
 adds_begins s t before e is = subst (λ (h : History). StartsWith h s.seen) (sym is.ends) (starts_more before s.seen e is.begins)
 
-pub goes_on : {A B : Type 0} {P : History → A → Type 0} (result : Result A B) (s t : Seated) (entry : History → A → Entry)
+pub goes_on : {A B : Type 0} (P : History → A → Type 0) (result : Result A B) (s t : Seated) (entry : History → A → Entry)
     → IfOk result (λ a. (before : History) × P before a × Adds s before (entry before a) t) → OnErr result (Looks s t) → (t.site ≡ s.site) × StartsWith t.seen s.seen
-goes_on (Ok a) s t entry (before, because, is) none = (is.same.site, adds_begins s t before (entry before a) is)
-goes_on (Err fault) s t entry none is = (is.same.site, is.begins)
+goes_on P (Ok a) s t entry (before, because, is) none = (is.same.site, adds_begins s t before (entry before a) is)
+goes_on P (Err fault) s t entry none is = (is.same.site, is.begins)
