@@ -1,0 +1,39 @@
+//! Shows what seats at one site see of one another. The input has scenes, a step a line, each scene ended by an empty line. Its first line says what it is
+//! about, and under each step comes the answer. A scene has a site of its own, with the table `3 2 1`, and two seats: `1`, which the site was opened with, and
+//! `2`, which was split off it. Each step of seat 2 is taken in another thread. A step is one of these:
+//!
+//! - `N: NAME joins`, `N: NAME is a seed`, `N: NAME certifies NAME LEVEL`, `N: NAME writes TEXT`, which that seat submits;
+//! - `N: publish`: that seat freezes the site, solves the graph and publishes the rosters;
+//! - `N: publish, while NAME certifies NAME LEVEL`: the same, with a certificate submitted before it solves;
+//! - `N: news`, `N: diary of NAME`;
+//! - `N: split K`: that seat is split so often;
+//! - `close`, the last step, with seat 1.
+#![tactic(auto)]
+
+mod acts;
+mod scenes;
+mod steps;
+
+use anyhow::Result;
+use scenes::played;
+use std::io::{self, BufRead, BufReader, BufWriter, Write};
+
+fn main(rt: HostRuntime) -> Result<()> {
+    let alloc = rt.alloc();
+    let mut out = BufWriter::new(alloc, io::writer(&rt))?;
+    let mut scene = String::new(alloc);
+    for line in BufReader::new(alloc, rt.reader())?.lines(alloc) {
+        let line = line?;
+        if line.is_empty() {
+            let shown = played(&rt, alloc, scene.as_str())?;
+            out.write_all(shown.as_bytes())?;
+            out.write_all(b"\n")?;
+            scene.clear();
+        } else {
+            scene.push_str(line.as_str())?;
+            scene.push('\n')?;
+        }
+    }
+    out.flush()?;
+    Ok(())
+}

@@ -1,0 +1,131 @@
+//! The scenes.
+
+ghost use Rattle.std.specs.Prelude.{◌≡◌};
+
+use crate::steps::take_step;
+use anyhow::{Result, bail};
+use outside::MemKeeper;
+use site_core::Book;
+use std::alloc::{AllocError, Global};
+use std::sync::Wait;
+use std::thread::{Threads, join};
+use trust_types::Caps;
+use turn_book::{Seat, Site};
+
+/// A site with two seats.
+#[derive(Drop)]
+struct Scene {
+    site: Site<MemKeeper>,
+    first: Seat<MemKeeper>,
+    second: Seat<MemKeeper>,
+    ghost first_here: { first.site ≡ site.table.shared.table_id },
+    ghost second_here: { second.site ≡ site.table.shared.table_id },
+}
+
+impl Scene {
+    /// A site in which nothing is kept yet.
+    fn open(alloc: Global) -> Result<Scene> {
+        let Ok(caps) = Caps::read(&[3, 2, 1]) else {
+            bail!("no table")
+        };
+        let keeper = MemKeeper::new(alloc, Vec::new(alloc), Vec::new(alloc));
+        let Ok(book) = Book::open(alloc, keeper, caps) else {
+            bail!("no book")
+        };
+        let (site, mut first) = Site::open(alloc, book)?;
+        match site.split(&mut first) {
+            Ok(second) => Ok(Scene {
+                site,
+                first,
+                second,
+            }),
+            Err(_) => bail!("no second seat"),
+        }
+    }
+
+    /// Takes a step: one of seat 1 here, one of seat 2 in another thread.
+    fn take<R: Threads + Wait + Sync>(self, rt: &R, alloc: Global, step: &str) -> Result<(Scene, String)> {
+        let Some((number, step)) = step.split_once(": ") else {
+            bail!("a step begins with a seat")
+        };
+        if number == "1" {
+            self.here(rt, alloc, step)
+        } else {
+            self.apart(rt, alloc, step)
+        }
+    }
+
+    fn here<R: Wait>(self, rt: &R, alloc: Global, step: &str) -> Result<(Scene, String)> {
+        let Scene { site, first, second } = self;
+        let (first, answer) = with_seat(rt, alloc, &site, first, step);
+        Ok((Scene { site, first, second }, answer?))
+    }
+
+    fn apart<R: Threads + Wait + Sync>(self, rt: &R, alloc: Global, step: &str) -> Result<(Scene, String)> {
+        let Scene { site, first, second } = self;
+        let shared = &site;
+        let (_, (second, answer)) = join(
+            rt,
+            || {},
+            move || -> (Seat<MemKeeper>, Result<String>)
+                requires { second.site ≡ shared.now.table.shared.table_id }
+                ensures { result.0.site ≡ second.site }
+            { with_seat(rt, alloc, shared, second, step) },
+        );
+        Ok((Scene { site, first, second }, answer?))
+    }
+
+    /// Closes the site with seat 1.
+    fn close(self, alloc: Global) -> Result<String, AllocError> {
+        let Scene { site, first, second: _ } = self;
+        match site.close(first) {
+            Ok(book) => format!(in alloc; "a book of {} entries, {} of them publications", book.length(), book.published()),
+            Err(away) => format!(in alloc; "{away}"),
+        }
+    }
+}
+
+/// Takes a step through a seat, and hands the seat back.
+fn with_seat<R: Wait>(
+    rt: &R,
+    alloc: Global,
+    site: &Site<MemKeeper>,
+    mut seat: Seat<MemKeeper>,
+    step: &str,
+) -> (Seat<MemKeeper>, Result<String>)
+    requires { seat.site ≡ site.now.table.shared.table_id }
+    ensures { result.0.site ≡ seat.site }
+{
+    let answer = take_step(rt, alloc, site, &mut seat, step);
+    (seat, answer)
+}
+
+/// Adds a step, and under it its answer.
+fn add_answer(shown: &mut String, step: &str, answer: &str) -> Result<(), AllocError> {
+    shown.push_str(step)?;
+    shown.push_str("\n    ")?;
+    shown.push_str(answer)?;
+    shown.push('\n')
+}
+
+/// A scene with the answers to its steps.
+pub(crate) fn played<R: Threads + Wait + Sync>(rt: &R, alloc: Global, text: &str) -> Result<String> {
+    let mut shown = String::new(alloc);
+    let mut scene = Scene::open(alloc)?;
+    for step in text.lines() {
+        if step == "close" {
+            let answer = scene.close(alloc)?;
+            add_answer(&mut shown, step, answer.as_str())?;
+            return Ok(shown);
+        }
+        if shown.is_empty() {
+            shown.push_str(step)?;
+            shown.push('\n')?;
+        } else {
+            let (next, answer) = scene.take(rt, alloc, step)?;
+            scene = next;
+            add_answer(&mut shown, step, answer.as_str())?;
+        }
+    }
+    Ok(shown)
+}

@@ -1,0 +1,6 @@
+pub mod Entries
+pub mod Places
+pub mod Keeps
+pub mod Seats
+pub mod Suits
+pub mod Fronts
