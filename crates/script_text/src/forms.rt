@@ -76,6 +76,7 @@ fn act(author: Option<Author>, command: Command) -> ScriptLine
     ScriptLine::Act(Act { author, command })
 }
 
+/// `moment MOMENT`.
 fn moment(words: &mut LineWords) -> Result<ScriptLine, LineFault>
     ensures { Tells result (moment_line words.old) }
 {
@@ -114,6 +115,7 @@ fn secret_in(alloc: Global, name: &str, word: Option<&str>) -> Result<Secret, Li
     Ok(secret_by(name, password.as_str()))
 }
 
+/// `join WORD` or `join WORD TEXT`: a new account's name, and its password.
 fn join(alloc: Global, words: &mut LineWords) -> Result<ScriptLine, LineFault>
     ensures { Tells result (join_line words.old) }
 {
@@ -123,6 +125,7 @@ fn join(alloc: Global, words: &mut LineWords) -> Result<ScriptLine, LineFault>
     Ok(act(None, Command::Join { name, secret }))
 }
 
+/// `seed WORD`.
 fn seed(alloc: Global, words: &mut LineWords) -> Result<ScriptLine, LineFault>
     ensures { Tells result (seed_line words.old) }
 {
@@ -130,6 +133,7 @@ fn seed(alloc: Global, words: &mut LineWords) -> Result<ScriptLine, LineFault>
     Ok(act(None, Command::Seed { subject }))
 }
 
+/// `unseed WORD`.
 fn unseed(alloc: Global, words: &mut LineWords) -> Result<ScriptLine, LineFault>
     ensures { Tells result (unseed_line words.old) }
 {
@@ -137,6 +141,7 @@ fn unseed(alloc: Global, words: &mut LineWords) -> Result<ScriptLine, LineFault>
     Ok(act(None, Command::Unseed { subject }))
 }
 
+/// `cert WORD WORD LEVEL`: the first certifies the second.
 fn cert(alloc: Global, words: &mut LineWords) -> Result<ScriptLine, LineFault>
     ensures { Tells result (cert_line words.old) }
 {
@@ -171,6 +176,7 @@ fn table_in(numbers: &[u32]) -> Result<Caps, TextKind>
     }
 }
 
+/// `table NUMBER NUMBER..`: the levels, and the entries.
 fn table(alloc: Global, words: &mut LineWords) -> Result<ScriptLine, LineFault>
     ensures { Tells result (table_line words.old) }
 {
@@ -179,6 +185,7 @@ fn table(alloc: Global, words: &mut LineWords) -> Result<ScriptLine, LineFault>
     Ok(act(None, Command::Table { caps }))
 }
 
+/// `diary WORD TEXT`: the author, and the text.
 fn diary(alloc: Global, words: &mut LineWords) -> Result<ScriptLine, LineFault>
     ensures { Tells result (diary_line words.old) }
 {
@@ -188,6 +195,7 @@ fn diary(alloc: Global, words: &mut LineWords) -> Result<ScriptLine, LineFault>
     Ok(act(Some(author), Command::Diary { text }))
 }
 
+/// `article WORD TEXT TEXT`: the author, the title and the text.
 fn article(alloc: Global, words: &mut LineWords) -> Result<ScriptLine, LineFault>
     ensures { Tells result (article_line words.old) }
 {
@@ -198,6 +206,7 @@ fn article(alloc: Global, words: &mut LineWords) -> Result<ScriptLine, LineFault
     Ok(act(Some(author), Command::Article { title, text }))
 }
 
+/// `reply WORD NUMBER TEXT`: the author, the article and the text.
 fn reply(alloc: Global, words: &mut LineWords) -> Result<ScriptLine, LineFault>
     ensures { Tells result (reply_line words.old) }
 {
@@ -208,6 +217,7 @@ fn reply(alloc: Global, words: &mut LineWords) -> Result<ScriptLine, LineFault>
     Ok(act(Some(author), Command::Reply { article, text }))
 }
 
+/// `project WORD WORD TEXT`: the author, the project's name and the text.
 fn project(alloc: Global, words: &mut LineWords) -> Result<ScriptLine, LineFault>
     ensures { Tells result (project_line words.old) }
 {
@@ -218,6 +228,7 @@ fn project(alloc: Global, words: &mut LineWords) -> Result<ScriptLine, LineFault
     Ok(act(Some(author), Command::Project { name, text }))
 }
 
+/// `login WORD TEXT HEX`: an account's name, its password and the token of the session.
 fn login(alloc: Global, words: &mut LineWords) -> Result<ScriptLine, LineFault>
     ensures { Tells result (login_line words.old) }
 {
@@ -229,6 +240,7 @@ fn login(alloc: Global, words: &mut LineWords) -> Result<ScriptLine, LineFault>
     Ok(act(None, Command::Login { name, proof, token }))
 }
 
+/// `logout WORD HEX`: the account that is logged in under the token.
 fn logout(alloc: Global, words: &mut LineWords) -> Result<ScriptLine, LineFault>
     ensures { Tells result (logout_line words.old) }
 {
@@ -238,6 +250,7 @@ fn logout(alloc: Global, words: &mut LineWords) -> Result<ScriptLine, LineFault>
     Ok(act(Some(author), Command::Logout))
 }
 
+/// `level WORD`.
 fn level(alloc: Global, words: &mut LineWords) -> Result<ScriptLine, LineFault>
     ensures { Tells result (level_line words.old) }
 {
@@ -245,6 +258,7 @@ fn level(alloc: Global, words: &mut LineWords) -> Result<ScriptLine, LineFault>
     Ok(ScriptLine::Level(Text::of(alloc, name)?))
 }
 
+/// `freeze ACTOR`.
 fn freeze(actors: &mut Actors, words: &mut LineWords) -> Result<ScriptLine, LineFault>
     ensures { TellsWith actors.new result (actor_line asks.Freeze actors.old words.old) }
 {
@@ -252,6 +266,7 @@ fn freeze(actors: &mut Actors, words: &mut LineWords) -> Result<ScriptLine, Line
     Ok(ScriptLine::Freeze(actors.actor_in(word)?))
 }
 
+/// `solve ACTOR`.
 fn solve(actors: &mut Actors, words: &mut LineWords) -> Result<ScriptLine, LineFault>
     ensures { TellsWith actors.new result (actor_line asks.Solve actors.old words.old) }
 {
@@ -259,6 +274,7 @@ fn solve(actors: &mut Actors, words: &mut LineWords) -> Result<ScriptLine, LineF
     Ok(ScriptLine::Solve(actors.actor_in(word)?))
 }
 
+/// `publish ACTOR`.
 fn publish(actors: &mut Actors, words: &mut LineWords) -> Result<ScriptLine, LineFault>
     ensures { TellsWith actors.new result (actor_line asks.Publish actors.old words.old) }
 {
@@ -266,6 +282,7 @@ fn publish(actors: &mut Actors, words: &mut LineWords) -> Result<ScriptLine, Lin
     Ok(ScriptLine::Publish(actors.actor_in(word)?))
 }
 
+/// `look ACTOR GRADE`.
 fn look(actors: &mut Actors, words: &mut LineWords) -> Result<ScriptLine, LineFault>
     ensures { TellsWith actors.new result (look_line actors.old words.old) }
 {
