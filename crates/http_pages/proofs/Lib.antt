@@ -1,2 +1,4 @@
 pub mod Inking
 pub mod Counting
+pub mod Serving
+pub mod Making

@@ -3,4 +3,7 @@ pub mod Lines
 pub mod Pages
 pub mod Responses
 pub mod Fixed
+pub mod Views
+pub mod Rosters
+pub mod Answers
 pub mod inner

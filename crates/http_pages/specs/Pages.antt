@@ -41,3 +41,19 @@ roster_page grade number revision names =
 -- The roster of a grade before there is a publication.
 unfoldable pub no_roster : Level → List ℕ
 no_roster grade = page (level_name grade) (paragraph (codes "no publication"))
+
+-- The newest articles, a line each.
+unfoldable pub front_page : List ℕ → List ℕ
+front_page articles = page (codes "virgule") (list articles)
+
+-- A diary, by the lines of its entries.
+unfoldable pub diary_page : List ℕ → List ℕ → List ℕ
+diary_page name entries = page (codes "Diary of " ++ name) entries
+
+-- An article, by its title, and its lines and those of the replies to it.
+unfoldable pub article_page : List ℕ → List ℕ → List ℕ → List ℕ
+article_page title article replies = page title (article ++ replies)
+
+-- A project, by its lines.
+unfoldable pub project_page : List ℕ → List ℕ → List ℕ
+project_page name project = page name project

@@ -1,3 +1,4 @@
 pub mod Bodies
 pub mod Inks
+pub mod Leads
 pub mod Shown

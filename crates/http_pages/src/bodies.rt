@@ -1,10 +1,12 @@
 //! The bodies of responses.
 
 ghost use Rattle.std.specs.Prelude.{◌≡◌, ◌++◌, OnOk, codes, map};
-ghost use Rattle.http_pages.specs.Pages.{opening, account_page, error_page, person_page, stewards_page, roster_page, no_roster};
+ghost use Rattle.std.specs.List.{flat_map};
+ghost use Rattle.http_pages.specs.Pages.{opening, account_page, error_page, person_page, stewards_page, roster_page, no_roster, front_page, diary_page, article_page, project_page};
 ghost use Rattle.trust_types.specs.NodeWords.{name_of};
-ghost use Rattle.http_pages.specs.inner.Bodies.{front_page, diary_page, article_page, project_page, body_of};
+ghost use Rattle.http_pages.specs.inner.Bodies.{body_of};
 ghost use Rattle.http_pages.specs.inner.Inks.{inked};
+ghost use Rattle.http_pages.specs.inner.Shown.{headline, entry, written, reply};
 
 use crate::lines::{
     put_form, put_heading, put_level_line, put_levels_line, put_paragraph, put_publication_line,
@@ -155,9 +157,9 @@ fn put_no_roster(pen: &mut Pen, grade: Level) -> Result<(), NoMemory>
     Ok(())
 }
 
-#[tactic(auto, using(crate::proofs::Inking::inked_twice, std::proofs::Common::append_assoc), unfolding(crate::specs::Pages::page, crate::specs::inner::Bodies::front_page))]
+#[tactic(auto, using(crate::proofs::Inking::inked_twice, std::proofs::Common::append_assoc), unfolding(crate::specs::Pages::page, crate::specs::Pages::front_page))]
 fn put_front(pen: &mut Pen, articles: &[Headline]) -> Result<(), NoMemory>
-    ensures { OnOk result (pen.new ≡ inked pen.old (front_page articles.now)) }
+    ensures { OnOk result (pen.new ≡ inked pen.old (front_page (flat_map headline articles.now))) }
 {
     open_page(pen, b"virgule")?;
     put_headlines(pen, articles)?;
@@ -185,9 +187,9 @@ fn open_diary(pen: &mut Pen, name: &[u8]) -> Result<(), NoMemory>
     Ok(())
 }
 
-#[tactic(auto, using(crate::proofs::Inking::inked_twice, std::proofs::Common::append_assoc), unfolding(crate::specs::Pages::page, crate::specs::inner::Bodies::diary_page))]
+#[tactic(auto, using(crate::proofs::Inking::inked_twice, std::proofs::Common::append_assoc), unfolding(crate::specs::Pages::page, crate::specs::Pages::diary_page))]
 fn put_diary_page(pen: &mut Pen, name: &Name, posts: &[CleanPost]) -> Result<(), NoMemory>
-    ensures { OnOk result (pen.new ≡ inked pen.old (diary_page name.now posts.now)) }
+    ensures { OnOk result (pen.new ≡ inked pen.old (diary_page name.now (flat_map entry posts.now))) }
 {
     open_diary(pen, name.bytes())?;
     put_diary(pen, posts)?;
@@ -195,14 +197,14 @@ fn put_diary_page(pen: &mut Pen, name: &Name, posts: &[CleanPost]) -> Result<(),
     Ok(())
 }
 
-#[tactic(auto, using(crate::proofs::Inking::inked_twice, std::proofs::Common::append_assoc), unfolding(crate::specs::Pages::page, crate::specs::inner::Bodies::article_page))]
+#[tactic(auto, using(crate::proofs::Inking::inked_twice, std::proofs::Common::append_assoc), unfolding(crate::specs::Pages::page, crate::specs::Pages::article_page))]
 fn put_article(
     pen: &mut Pen,
     title: &SafeHtml,
     post: &CleanPost,
     replies: &[CleanPost],
 ) -> Result<(), NoMemory>
-    ensures { OnOk result (pen.new ≡ inked pen.old (article_page title.now post.now replies.now)) }
+    ensures { OnOk result (pen.new ≡ inked pen.old (article_page title.now (written post.now) (flat_map reply replies.now))) }
 {
     open_page(pen, title.bytes())?;
     put_written(pen, post)?;
@@ -211,9 +213,9 @@ fn put_article(
     Ok(())
 }
 
-#[tactic(auto, using(crate::proofs::Inking::inked_twice, std::proofs::Common::append_assoc), unfolding(crate::specs::Pages::page, crate::specs::inner::Bodies::project_page))]
+#[tactic(auto, using(crate::proofs::Inking::inked_twice, std::proofs::Common::append_assoc), unfolding(crate::specs::Pages::page, crate::specs::Pages::project_page))]
 fn put_project(pen: &mut Pen, name: &Name, post: &CleanPost) -> Result<(), NoMemory>
-    ensures { OnOk result (pen.new ≡ inked pen.old (project_page name.now post.now)) }
+    ensures { OnOk result (pen.new ≡ inked pen.old (project_page name.now (written post.now))) }
 {
     open_page(pen, name.bytes())?;
     put_written(pen, post)?;

@@ -4,6 +4,7 @@
 mod bodies;
 mod dates;
 mod fixed;
+mod leads;
 mod lines;
 mod lists;
 mod pens;

@@ -1,6 +1,5 @@
 use Rattle.std.proofs.Common.{refl, append_assoc}
-use Rattle.http_pages.specs.Pages.{page}
-use Rattle.http_pages.specs.inner.Bodies.{diary_page}
+use Rattle.http_pages.specs.Pages.{page, diary_page}
 use Rattle.http_pages.proofs.Inking.{inked_twice}
 use Rattle.http_pages.proofs.bodies.put_diary_page.Goals as goal
 
