@@ -9,6 +9,8 @@ mod lines;
 mod lists;
 mod pens;
 mod responses;
+mod rosters;
 mod shown;
 
 pub use fixed::fixed_page;
+pub use rosters::roster_page;
