@@ -11,6 +11,8 @@ mod pens;
 mod responses;
 mod rosters;
 mod shown;
+mod views;
 
 pub use fixed::fixed_page;
 pub use rosters::roster_page;
+pub use views::view_page;
