@@ -1,6 +1,7 @@
 //! Pages: what a site's clients are sent.
 #![tactic(auto)]
 
+mod answers;
 mod bodies;
 mod dates;
 mod fixed;
@@ -13,6 +14,7 @@ mod rosters;
 mod shown;
 mod views;
 
+pub use answers::answer_page;
 pub use fixed::fixed_page;
 pub use rosters::roster_page;
 pub use views::view_page;
