@@ -2,3 +2,4 @@ pub mod Inking
 pub mod Counting
 pub mod Serving
 pub mod Making
+pub mod Grammar

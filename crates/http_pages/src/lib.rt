@@ -5,6 +5,7 @@ mod answers;
 mod bodies;
 mod dates;
 mod fixed;
+mod laws;
 mod leads;
 mod lines;
 mod lists;
@@ -16,5 +17,6 @@ mod views;
 
 pub use answers::answer_page;
 pub use fixed::fixed_page;
+pub use laws::{fixed_are_safe, refusals_are_safe, rosters_are_safe, views_are_safe};
 pub use rosters::roster_page;
 pub use views::view_page;
