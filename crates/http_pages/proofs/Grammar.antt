@@ -1,17 +1,16 @@
 -- Each page is in the grammar of pages.
-use Rattle.std.proofs.Common.{◌≡◌, ◌<◌, ◌+◌, ℕ, suc, zero, Bool, true, false, List, [], ◌∷◌, ◌++◌, length, All, refl, sym, ap, subst, ◌∙◌, append_assoc, arith, rules, cond}
-use Rattle.std.specs.Prelude.{codes, decimal, ◌&&◌, ◌||◌, ◌==◌, nat_le, slice_index, slice_index_or}
+use Rattle.std.proofs.Common.{◌≡◌, ℕ, suc, Bool, true, false, List, [], ◌∷◌, ◌++◌, All, refl, sym, ap, subst, ◌∙◌, append_assoc, arith, rules, cond}
+use Rattle.std.specs.Prelude.{codes, decimal, ◌&&◌, ◌==◌}
 use Rattle.std.specs.List.{flat_map, list_all}
-use Rattle.std.specs.Char.{is_ascii_lowercase, is_ascii_digit}
 use Rattle.std.proofs.lemmas.Bool.{and_parts}
 use Rattle.std.proofs.lemmas.Bool.Decides.{nat_tests}
-use Rattle.markup.specs.Escapes.{escaped, escape_of, is_plain}
+use Rattle.markup.specs.Escapes.{escaped, is_plain}
 use Rattle.markup.specs.Cleaning.{cleaned}
 use Rattle.markup.proofs.Fronts.{escape_of-plain}
 use Rattle.trust_types.specs.declared.levels.Level.{Level}
 use Rattle.trust_types.specs.declared.levels.Level.TheVariants.{Observer, Apprentice, Journeyer, Master, Fellow, Warden, Elder}
 use Rattle.trust_types.specs.Levels.{level_name}
-use Rattle.trust_types.specs.Names.{IsName, is_name, is_name_byte}
+use Rattle.trust_types.specs.Names.{IsName, is_name_byte}
 use Rattle.posting_policy.specs.declared.PostKind.{PostKind}
 use Rattle.posting_policy.specs.declared.PostKind.TheVariants as kind
 use Rattle.site_history.specs.declared.replies.Reply.{Reply}
@@ -20,14 +19,14 @@ use Rattle.site_history.specs.declared.replies.Refusal.{Refusal}
 use Rattle.site_history.specs.declared.replies.Refusal.TheVariants as refusal
 use Rattle.site_history.specs.declared.views.ArticleHead.{ArticleHead}
 use Rattle.site_history.specs.declared.views.PostView.{PostView}
-use Rattle.site_history.specs.Views.{Shown, Front, OfPerson, OfDiary, OfArticle, OfProject, OfStewards, Missing}
+use Rattle.site_history.specs.Views.{Front, OfPerson, OfDiary, OfArticle, OfProject, OfStewards, Missing}
 use Rattle.site_history.specs.Words.{reply_words, refusal_words, kind_word}
 use Rattle.http_pages.specs.Dates.{date_of}
 use Rattle.http_pages.specs.Fixed.{fault_text}
-use Rattle.http_pages.specs.Lines.{paragraph, heading, list, block, form, article_line, roster_line, cert_line, seed_line, level_line, publication_line, levels_line, spaced, caps_line, signed, entry_lines, post_lines, reply_lines}
-use Rattle.http_pages.specs.Pages.{page, account_page, error_page, person_page, stewards_page, roster_page, no_roster, front_page, diary_page, article_page, project_page}
+use Rattle.http_pages.specs.Lines.{paragraph, heading, list, form, article_line, roster_line, cert_line, seed_line, level_line, publication_line, levels_line, spaced, caps_line, signed, entry_lines, post_lines, reply_lines}
+use Rattle.http_pages.specs.Pages.{account_page, error_page, person_page, stewards_page, roster_page, no_roster, front_page, diary_page, article_page, project_page}
 use Rattle.http_pages.specs.Views.{headline_of, entry_of, written_of, reply_of}
-use Rattle.http_pages.specs.Safe.{IsWords, Escaped, Number, Date, MoreWords, AreItems, NoItem, Item, Link, LinkBy, MoreItems, AreLines, NoLine, Paragraph, Heading, Items, Block, Form, MoreLines, IsSafePage, Page, IsPost, IsCertName, IsView, ViewsAreSafe, RostersAreSafe, FixedAreSafe, RefusalsAreSafe}
+use Rattle.http_pages.specs.Safe.{IsWords, Escaped, Number, Date, MoreWords, AreItems, NoItem, Item, Link, LinkBy, MoreItems, AreLines, NoLine, Paragraph, Heading, Items, Block, Form, MoreLines, IsSafePage, Page, IsPost, IsCertName, ViewsAreSafe, RostersAreSafe, FixedAreSafe, RefusalsAreSafe}
 
 -- Text without a byte that is escaped stands for itself.
 escaped-plain : (text : List ℕ) → list_all is_plain text ≡ true → escaped text ≡ text

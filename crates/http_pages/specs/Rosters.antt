@@ -1,5 +1,5 @@
 -- The answers that show a grade's roster, or its proof, of a publication.
-use Rattle.std.specs.Prelude.{ℕ, List, [], ◌≡◌, codes, map, Option, Some, None}
+use Rattle.std.specs.Prelude.{ℕ, List, ◌≡◌, codes, map, Option, Some, None}
 use Rattle.trust_types.specs.declared.levels.Level.{Level}
 use Rattle.trust_types.specs.NodeWords.{name_of}
 use Rattle.trust_types.specs.Proven.{Lists}

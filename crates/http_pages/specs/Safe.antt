@@ -1,5 +1,5 @@
 -- The grammar of pages: which lines a page may have, and what stands in each. It knows nothing of a site, and no text of a member can add to it.
-use Rattle.std.specs.Prelude.{ℕ, List, [], ◌++◌, ◌≡◌, All, codes, decimal}
+use Rattle.std.specs.Prelude.{ℕ, List, [], ◌++◌, All, codes, decimal}
 use Rattle.markup.specs.Cleaning.{cleaned}
 use Rattle.markup.specs.Escapes.{escaped}
 use Rattle.markup.specs.Safe.{IsSafeHtml}

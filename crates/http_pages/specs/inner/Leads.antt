@@ -1,5 +1,5 @@
 -- Where a response leads, and its cookie, as the code holds them.
-use Rattle.std.specs.Prelude.{ℕ, List, ◌++◌, codes, decimal}
+use Rattle.std.specs.Prelude.{ℕ, List, ◌++◌, codes}
 use Rattle.http_pages.specs.declared.leads.Place.{Place}
 use Rattle.http_pages.specs.declared.leads.Place.TheVariants as place
 use Rattle.http_pages.specs.declared.leads.Cookie.{Cookie}

@@ -1,5 +1,5 @@
 -- The lines of what is ready to be put down.
-use Rattle.std.specs.Prelude.{ℕ, List, ◌≡◌}
+use Rattle.std.specs.Prelude.{ℕ, List}
 use Rattle.std.specs.List.{flat_map}
 use Rattle.markup.specs.Cleaning.{cleaned}
 use Rattle.site_history.specs.declared.views.PostView.{PostView}
