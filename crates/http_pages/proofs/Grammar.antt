@@ -21,10 +21,10 @@ use Rattle.site_history.specs.declared.views.ArticleHead.{ArticleHead}
 use Rattle.site_history.specs.declared.views.PostView.{PostView}
 use Rattle.site_history.specs.Views.{Front, OfPerson, OfDiary, OfArticle, OfProject, OfStewards, Missing}
 use Rattle.site_history.specs.Words.{reply_words, refusal_words, kind_word}
-use Rattle.http_pages.specs.Dates.{date_of}
+use Rattle.html_pages.specs.Dates.{date_of}
 use Rattle.http_pages.specs.Fixed.{fault_text}
-use Rattle.http_pages.specs.Lines.{paragraph, heading, list, form, article_line, roster_line, cert_line, seed_line, level_line, publication_line, levels_line, spaced, caps_line, signed, entry_lines, post_lines, reply_lines}
-use Rattle.http_pages.specs.Pages.{account_page, error_page, person_page, stewards_page, roster_page, no_roster, front_page, diary_page, article_page, project_page}
+use Rattle.html_pages.specs.Lines.{paragraph, heading, list, form, article_line, roster_line, cert_line, seed_line, level_line, publication_line, levels_line, spaced, caps_line, signed, entry_lines, post_lines, reply_lines}
+use Rattle.html_pages.specs.Pages.{account_page, error_page, person_page, stewards_page, roster_page, no_roster, front_page, diary_page, article_page, project_page}
 use Rattle.http_pages.specs.Views.{headline_of, entry_of, written_of, reply_of}
 use Rattle.http_pages.specs.Safe.{IsWords, Escaped, Number, Date, MoreWords, AreItems, NoItem, Item, Link, LinkBy, MoreItems, AreLines, NoLine, Paragraph, Heading, Items, Block, Form, MoreLines, IsSafePage, Page, IsPost, IsCertName, ViewsAreSafe, RostersAreSafe, FixedAreSafe, RefusalsAreSafe}
 

@@ -1,6 +1,6 @@
 -- The answers in which nothing of a site is shown.
 use Rattle.std.specs.Prelude.{ℕ, List, [], ◌∷◌, ◌==◌, codes, if◌then◌else◌}
-use Rattle.http_pages.specs.Pages.{account_page, error_page}
+use Rattle.html_pages.specs.Pages.{account_page, error_page}
 use Rattle.http_pages.specs.Responses.{Response, html}
 
 -- Why there is no page (RFC 9110, section 15).

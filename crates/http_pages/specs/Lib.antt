@@ -1,6 +1,3 @@
-pub mod Dates
-pub mod Lines
-pub mod Pages
 pub mod Responses
 pub mod Fixed
 pub mod Views

@@ -1,8 +1,8 @@
 -- A response, head and body (RFC 9112, section 2.1).
 use Rattle.std.specs.Prelude.{ℕ, Bool, List, [], ◌++◌, Option, Some, None, codes, decimal, length, unwrap_or, if◌then◌else◌}
 use Rattle.http.specs.StatusCode.{reason_phrase}
-use Rattle.http_pages.specs.Dates.{date_of}
-use Rattle.http_pages.specs.Pages.{error_page}
+use Rattle.html_pages.specs.Dates.{date_of}
+use Rattle.html_pages.specs.Pages.{error_page}
 use Rattle.http_pages.specs.declared.responses.Kind.{Kind}
 use Rattle.http_pages.specs.declared.responses.Kind.TheVariants.{Html, Plain}
 

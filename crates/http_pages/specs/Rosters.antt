@@ -10,7 +10,7 @@ use Rattle.audit_text.specs.Canonical.{IsCanonical}
 use Rattle.http_requests.specs.declared.routes.Route.{Route}
 use Rattle.http_requests.specs.declared.routes.Route.TheVariants as route
 use Rattle.http_pages.specs.declared.responses.Kind.TheVariants.{Plain}
-use Rattle.http_pages.specs.Pages.{roster_page, no_roster}
+use Rattle.html_pages.specs.Pages.{roster_page, no_roster}
 use Rattle.http_pages.specs.Responses.{Response, found, failed}
 
 -- A roster: the names that the publication's own graph has for its accounts; 404 where the publication hasn't the grade.

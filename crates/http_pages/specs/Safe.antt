@@ -10,10 +10,10 @@ use Rattle.site_history.specs.declared.replies.Refusal.{Refusal}
 use Rattle.site_history.specs.declared.views.PostView.{PostView}
 use Rattle.site_history.specs.Views.{Shown, Front, OfPerson, OfDiary, OfArticle, OfProject, OfStewards, Missing}
 use Rattle.site_history.specs.Words.{reply_words, refusal_words}
-use Rattle.http_pages.specs.Dates.{date_of}
+use Rattle.html_pages.specs.Dates.{date_of}
 use Rattle.http_pages.specs.Fixed.{fixed_response}
-use Rattle.http_pages.specs.Lines.{paragraph, heading, list, block, form}
-use Rattle.http_pages.specs.Pages.{page, error_page, roster_page, no_roster}
+use Rattle.html_pages.specs.Lines.{paragraph, heading, list, block, form}
+use Rattle.html_pages.specs.Pages.{page, error_page, roster_page, no_roster}
 use Rattle.http_pages.specs.Views.{view_response}
 
 -- Text without markup: any text, escaped; a number; a date; and these one after another.

@@ -6,9 +6,9 @@ use Rattle.markup.specs.Escapes.{escaped}
 use Rattle.site_history.specs.declared.views.ArticleHead.{ArticleHead}
 use Rattle.site_history.specs.declared.views.PostView.{PostView}
 use Rattle.site_history.specs.Views.{Shown, Front, OfPerson, OfDiary, OfArticle, OfProject, OfStewards, Missing}
-use Rattle.http_pages.specs.Dates.{NO_DATE}
-use Rattle.http_pages.specs.Lines.{article_line, entry_lines, post_lines, reply_lines}
-use Rattle.http_pages.specs.Pages.{front_page, person_page, diary_page, article_page, project_page, stewards_page}
+use Rattle.html_pages.specs.Dates.{NO_DATE}
+use Rattle.html_pages.specs.Lines.{article_line, entry_lines, post_lines, reply_lines}
+use Rattle.html_pages.specs.Pages.{front_page, person_page, diary_page, article_page, project_page, stewards_page}
 use Rattle.http_pages.specs.Responses.{Response, found, failed}
 
 -- A post whose moment has a date, and what is shown with such posts alone.

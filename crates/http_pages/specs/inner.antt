@@ -1,4 +1,3 @@
-pub mod Bodies
-pub mod Inks
+pub mod Cleaned
+pub mod Heads
 pub mod Leads
-pub mod Shown

@@ -5,13 +5,13 @@ ghost use Rattle.std.specs.Option.{option_copied};
 ghost use Rattle.http.specs.StatusCode.{IsStatusCode};
 ghost use Rattle.site_history.specs.Words.{reply_words};
 ghost use Rattle.http_pages.specs.Answers.{reply_status, named_path, change_path, diary_path, reply_path, project_path, post_path, location_of, named_cookie, login_cookie, cookie_of, reply_response, answer_response};
-ghost use Rattle.http_pages.specs.Dates.{NO_DATE};
+ghost use Rattle.html_pages.specs.Dates.{NO_DATE};
 ghost use Rattle.http_pages.specs.Responses.{bytes_of};
 ghost use Rattle.http_pages.specs.inner.Leads.{path, cookie_text};
 
-use crate::bodies::Body;
 use crate::leads::{Cookie, Place};
 use crate::responses::{Head, Kind, failed, respond};
+use html_pages::Body;
 use http_requests::{Request, Route};
 use posting_policy::PostKind;
 use sessions::Token;

@@ -1,14 +1,14 @@
 //! The answers in which nothing of a site is shown.
 
 ghost use Rattle.std.specs.Prelude.{◌≡◌, ◌<◌, Contains, IfOk, if◌then◌else◌, ◌==◌};
-ghost use Rattle.http_pages.specs.Dates.{NO_DATE};
+ghost use Rattle.html_pages.specs.Dates.{NO_DATE};
 ghost use Rattle.http_pages.specs.Fixed.{fault_text, fixed_statuses, fixed_response};
-ghost use Rattle.http_pages.specs.Pages.{account_page, error_page};
+ghost use Rattle.html_pages.specs.Pages.{account_page, error_page};
 ghost use Rattle.http_pages.specs.Responses.{bytes_of};
-ghost use Rattle.http_pages.specs.inner.Bodies.{body_of};
+ghost use Rattle.html_pages.specs.Bodies.{body_of};
 
-use crate::bodies::Body;
 use crate::responses::respond_html;
+use html_pages::Body;
 use std::alloc::Global;
 use trust_types::NoMemory;
 

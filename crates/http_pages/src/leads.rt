@@ -3,10 +3,10 @@
 ghost use Rattle.std.specs.Prelude.{◌≡◌, ◌++◌, OnOk};
 ghost use Rattle.hex.specs.Hex.{encode_lower};
 ghost use Rattle.http_pages.specs.Answers.{article_path, session_cookie};
-ghost use Rattle.http_pages.specs.inner.Inks.{inked};
+ghost use Rattle.html_pages.specs.Inks.{inked};
 ghost use Rattle.http_pages.specs.inner.Leads.{path, cookie_text};
 
-use crate::pens::Pen;
+use html_pages::Pen;
 use sessions::Token;
 use trust_types::{Name, NoMemory};
 
@@ -32,7 +32,7 @@ pub enum Cookie<'a> {
     Ended,
 }
 
-#[tactic(auto, using(crate::proofs::Inking::inked_twice))]
+#[tactic(auto, using(html_pages::proofs::Inking::inked_twice))]
 fn put_named(pen: &mut Pen, front: &[u8], name: &Name) -> Result<(), NoMemory>
     ensures { OnOk result (pen.new ≡ inked pen.old (front.now ++ name.now)) }
 {
@@ -41,7 +41,7 @@ fn put_named(pen: &mut Pen, front: &[u8], name: &Name) -> Result<(), NoMemory>
     Ok(())
 }
 
-#[tactic(auto, using(crate::proofs::Inking::inked_twice))]
+#[tactic(auto, using(html_pages::proofs::Inking::inked_twice))]
 fn put_article_path(pen: &mut Pen, number: u32) -> Result<(), NoMemory>
     ensures { OnOk result (pen.new ≡ inked pen.old (article_path number)) }
 {
@@ -74,7 +74,7 @@ fn digits_of(token: &Token) -> [u8; 32]
     digits
 }
 
-#[tactic(auto, using(crate::proofs::Inking::inked_twice))]
+#[tactic(auto, using(html_pages::proofs::Inking::inked_twice))]
 fn put_session(pen: &mut Pen, name: &Name, token: &Token) -> Result<(), NoMemory>
     ensures { OnOk result (pen.new ≡ inked pen.old (session_cookie name.now token.now)) }
 {

@@ -2,17 +2,11 @@
 #![tactic(auto)]
 
 mod answers;
-mod bodies;
-mod dates;
 mod fixed;
 mod laws;
 mod leads;
-mod lines;
-mod lists;
-mod pens;
 mod responses;
 mod rosters;
-mod shown;
 mod views;
 
 pub use answers::answer_page;

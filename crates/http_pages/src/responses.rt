@@ -2,15 +2,15 @@
 
 ghost use Rattle.std.specs.Prelude.{◌≡◌, ◌<◌, [], OnOk, IfOk, Some, option_map, unwrap_or};
 ghost use Rattle.http.specs.StatusCode.{IsStatusCode, reason_phrase};
-ghost use Rattle.http_pages.specs.Dates.{NO_DATE};
+ghost use Rattle.html_pages.specs.Dates.{NO_DATE};
 ghost use Rattle.http_pages.specs.Responses.{html, found, failed, status_line, date_line, kind_word, type_line, length_line, location_line, cookie_line, connection_word, connection_line, head, sent, bytes_of};
-ghost use Rattle.http_pages.specs.inner.Bodies.{body_of, response_of};
-ghost use Rattle.http_pages.specs.inner.Inks.{inked};
+ghost use Rattle.html_pages.specs.Bodies.{body_of};
+ghost use Rattle.http_pages.specs.inner.Heads.{response_of};
+ghost use Rattle.html_pages.specs.Inks.{inked};
 ghost use Rattle.http_pages.specs.inner.Leads.{path, cookie_text};
 
-use crate::bodies::{Body, put_body};
 use crate::leads::{Cookie, Place, put_cookie, put_place};
-use crate::pens::Pen;
+use html_pages::{Body, Pen, put_body};
 use http::StatusCode;
 use http_requests::Request;
 use std::alloc::Global;
@@ -61,7 +61,7 @@ fn connection_word(close: bool) -> &'static str
     if close { "close" } else { "keep-alive" }
 }
 
-#[tactic(auto, using(crate::proofs::Inking::inked_twice), unfolding(crate::specs::Responses::status_line))]
+#[tactic(auto, using(html_pages::proofs::Inking::inked_twice), unfolding(crate::specs::Responses::status_line))]
 fn put_status(pen: &mut Pen, status: u16) -> Result<(), NoMemory>
     requires { IsStatusCode status }
     ensures { OnOk result (pen.new ≡ inked pen.old (status_line status)) }
@@ -74,7 +74,7 @@ fn put_status(pen: &mut Pen, status: u16) -> Result<(), NoMemory>
     Ok(())
 }
 
-#[tactic(auto, using(crate::proofs::Inking::inked_twice), unfolding(crate::specs::Responses::date_line))]
+#[tactic(auto, using(html_pages::proofs::Inking::inked_twice), unfolding(crate::specs::Responses::date_line))]
 fn put_date(pen: &mut Pen, moment: u64) -> Result<(), NoMemory>
     requires { moment < NO_DATE }
     ensures { OnOk result (pen.new ≡ inked pen.old (date_line moment)) }
@@ -85,7 +85,7 @@ fn put_date(pen: &mut Pen, moment: u64) -> Result<(), NoMemory>
     Ok(())
 }
 
-#[tactic(auto, using(crate::proofs::Inking::inked_twice), unfolding(crate::specs::Responses::type_line))]
+#[tactic(auto, using(html_pages::proofs::Inking::inked_twice), unfolding(crate::specs::Responses::type_line))]
 fn put_type(pen: &mut Pen, kind: Kind) -> Result<(), NoMemory>
     ensures { OnOk result (pen.new ≡ inked pen.old (type_line kind)) }
 {
@@ -95,7 +95,7 @@ fn put_type(pen: &mut Pen, kind: Kind) -> Result<(), NoMemory>
     Ok(())
 }
 
-#[tactic(auto, using(crate::proofs::Inking::inked_twice), unfolding(crate::specs::Responses::length_line))]
+#[tactic(auto, using(html_pages::proofs::Inking::inked_twice), unfolding(crate::specs::Responses::length_line))]
 fn put_length(pen: &mut Pen, length: usize) -> Result<(), NoMemory>
     ensures { OnOk result (pen.new ≡ inked pen.old (length_line length)) }
 {
@@ -105,7 +105,7 @@ fn put_length(pen: &mut Pen, length: usize) -> Result<(), NoMemory>
     Ok(())
 }
 
-#[tactic(auto, using(crate::proofs::Inking::inked_twice), unfolding(crate::specs::Responses::connection_line))]
+#[tactic(auto, using(html_pages::proofs::Inking::inked_twice), unfolding(crate::specs::Responses::connection_line))]
 fn put_connection(pen: &mut Pen, close: bool) -> Result<(), NoMemory>
     ensures { OnOk result (pen.new ≡ inked pen.old (connection_line close)) }
 {
@@ -115,7 +115,7 @@ fn put_connection(pen: &mut Pen, close: bool) -> Result<(), NoMemory>
     Ok(())
 }
 
-#[tactic(auto, using(crate::proofs::Inking::inked_twice), unfolding(crate::specs::Responses::location_line))]
+#[tactic(auto, using(html_pages::proofs::Inking::inked_twice), unfolding(crate::specs::Responses::location_line))]
 fn put_location_line(pen: &mut Pen, place: &Place) -> Result<(), NoMemory>
     ensures { OnOk result (pen.new ≡ inked pen.old (location_line (Some (path place.now)))) }
 {
@@ -135,7 +135,7 @@ fn put_location(pen: &mut Pen, location: &Option<Place>) -> Result<(), NoMemory>
     }
 }
 
-#[tactic(auto, using(crate::proofs::Inking::inked_twice), unfolding(crate::specs::Responses::cookie_line))]
+#[tactic(auto, using(html_pages::proofs::Inking::inked_twice), unfolding(crate::specs::Responses::cookie_line))]
 fn put_cookie_line(pen: &mut Pen, cookie: &Cookie<'_>) -> Result<(), NoMemory>
     ensures { OnOk result (pen.new ≡ inked pen.old (cookie_line (Some (cookie_text cookie.now)))) }
 {
@@ -155,7 +155,7 @@ fn put_set_cookie(pen: &mut Pen, cookie: &Option<Cookie<'_>>) -> Result<(), NoMe
     }
 }
 
-#[tactic(auto, using(crate::proofs::Inking::inked_twice), unfolding(crate::specs::Responses::head))]
+#[tactic(auto, using(html_pages::proofs::Inking::inked_twice), unfolding(crate::specs::Responses::head))]
 fn put_head(pen: &mut Pen, told: &Head<'_>, length: usize, moment: u64) -> Result<(), NoMemory>
     requires status { IsStatusCode told.now.status }
     requires moment { moment < NO_DATE }

@@ -4,14 +4,13 @@ ghost use Rattle.std.specs.Prelude.{◌≡◌, ◌<◌, IfOk, Some};
 ghost use Rattle.std.specs.Option.{option_copied};
 ghost use Rattle.roster_form.specs.LevelRosters.{lists_of};
 ghost use Rattle.roster_form.specs.Candidates.{IsSound};
-ghost use Rattle.http_pages.specs.Dates.{NO_DATE};
+ghost use Rattle.html_pages.specs.Dates.{NO_DATE};
 ghost use Rattle.http_pages.specs.Responses.{Response, bytes_of};
 ghost use Rattle.http_pages.specs.Rosters.{AsksForRoster, IsShown, roster_response, roster_in, IsProofResponse, IsProofIn, plain};
 
-use crate::bodies::Body;
 use crate::responses::{Head, Kind, failed, found, respond};
-use crate::shown::Roster;
 use audit_text::proof_text;
+use html_pages::{Body, Roster};
 use http_requests::{Request, Route};
 use roster_form::{LevelRoster, Publication};
 use std::alloc::Global;

@@ -4,14 +4,14 @@ ghost use Rattle.std.specs.Prelude.{ℕ, List, ◌≡◌, ◌<◌, All, IfOk};
 ghost use Rattle.std.specs.List.{flat_map};
 ghost use Rattle.markup.specs.Cleaning.{cleaned};
 ghost use Rattle.site_history.specs.Views.{Article, said, Front, OfPerson, OfDiary, OfArticle, OfProject, OfStewards, Missing};
-ghost use Rattle.http_pages.specs.Dates.{NO_DATE};
+ghost use Rattle.html_pages.specs.Dates.{NO_DATE};
 ghost use Rattle.http_pages.specs.Responses.{bytes_of};
 ghost use Rattle.http_pages.specs.Views.{IsDated, AreDated, headline_of, view_response};
-ghost use Rattle.http_pages.specs.inner.Shown.{headline, clean_lines, cleaned_lines};
+ghost use Rattle.html_pages.specs.Shown.{headline};
+ghost use Rattle.http_pages.specs.inner.Cleaned.{clean_lines, cleaned_lines};
 
-use crate::bodies::Body;
 use crate::responses::{failed, found};
-use crate::shown::{CleanPost, Headline};
+use html_pages::{Body, CleanPost, Headline};
 use http_requests::Request;
 use markup::{clean, escape};
 use site_history::{
@@ -153,7 +153,7 @@ fn stewards(
 }
 
 /// An article of the front page, its title escaped.
-#[tactic(auto, unfolding(crate::specs::inner::Shown::headline, crate::specs::Views::headline_of))]
+#[tactic(auto, unfolding(html_pages::specs::Shown::headline, crate::specs::Views::headline_of))]
 fn escape_head(alloc: Global, head: &ArticleHead) -> Result<Headline, NoMemory>
     ensures { IfOk result (λ article. headline article ≡ headline_of head.now) }
 {

@@ -1,5 +1,5 @@
 use Rattle.std.proofs.Common.{refl}
-use Rattle.http_pages.proofs.Inking.{inked_twice}
+use Rattle.html_pages.proofs.Inking.{inked_twice}
 use Rattle.http_pages.proofs.leads.put_session.Goals as goal
 
 pub returns : goal.returns

@@ -1,8 +1,8 @@
 use Rattle.std.specs.Prelude.{option_map}
 use Rattle.http_pages.specs.Responses.{head, sent, bytes_of}
-use Rattle.http_pages.specs.inner.Bodies.{body_of}
+use Rattle.html_pages.specs.Bodies.{body_of}
 use Rattle.http_pages.specs.inner.Leads.{path, cookie_text}
-use Rattle.http_pages.proofs.Inking.{responded}
+use Rattle.html_pages.proofs.Inking.{responded}
 use Rattle.http_pages.proofs.responses.respond.Goals as goal
 
 pub returns : goal.returns

@@ -1,9 +1,9 @@
 use Rattle.std.proofs.Common.{◌≡◌, ap, ◌∙◌}
 use Rattle.std.specs.List.{flat_map}
 use Rattle.markup.specs.Escapes.{escaped}
-use Rattle.http_pages.specs.Lines.{post_lines, reply_lines}
+use Rattle.html_pages.specs.Lines.{post_lines, reply_lines}
 use Rattle.http_pages.specs.Views.{written_of, reply_of}
-use Rattle.http_pages.specs.inner.Shown.{written, reply}
+use Rattle.html_pages.specs.Shown.{written, reply}
 use Rattle.http_pages.proofs.views.article.Goals as goal
 
 pub returns : goal.returns

@@ -1,5 +1,5 @@
 use Rattle.std.proofs.Common.{ℕ, List, ◌≡◌, take}
-use Rattle.http_pages.specs.inner.Shown.{clean_lines, cleaned_lines}
+use Rattle.http_pages.specs.inner.Cleaned.{clean_lines, cleaned_lines}
 use Rattle.http_pages.proofs.views.clean_posts.Given as goal
 
 abbrev pub invariant-loop-post : goal.invariant-loop-post

@@ -1,8 +1,8 @@
 use Rattle.std.proofs.Common.{ap, ◌∙◌}
 use Rattle.std.specs.List.{flat_map}
-use Rattle.http_pages.specs.Lines.{entry_lines}
+use Rattle.html_pages.specs.Lines.{entry_lines}
 use Rattle.http_pages.specs.Views.{entry_of}
-use Rattle.http_pages.specs.inner.Shown.{entry}
+use Rattle.html_pages.specs.Shown.{entry}
 use Rattle.http_pages.proofs.views.diary.Goals as goal
 
 pub returns : goal.returns

@@ -1,6 +1,6 @@
 use Rattle.std.proofs.Common.{sym, arith}
 use Rattle.http_pages.specs.Views.{headline_of}
-use Rattle.http_pages.specs.inner.Shown.{headline}
+use Rattle.html_pages.specs.Shown.{headline}
 use Rattle.http_pages.proofs.Making.{made_more, made_all}
 use Rattle.http_pages.proofs.views.escape_heads.Goals as goal
 

@@ -1,7 +1,7 @@
 use Rattle.std.proofs.Common.{◌≡◌, take}
 use Rattle.std.specs.List.{flat_map}
 use Rattle.http_pages.specs.Views.{headline_of}
-use Rattle.http_pages.specs.inner.Shown.{headline}
+use Rattle.html_pages.specs.Shown.{headline}
 use Rattle.http_pages.proofs.views.escape_heads.Given as goal
 
 abbrev pub invariant-loop-head : goal.invariant-loop-head

@@ -1,7 +1,7 @@
 use Rattle.std.proofs.Common.{◌≡◌}
-use Rattle.http_pages.specs.Lines.{post_lines}
+use Rattle.html_pages.specs.Lines.{post_lines}
 use Rattle.http_pages.specs.Views.{written_of}
-use Rattle.http_pages.specs.inner.Shown.{written}
+use Rattle.html_pages.specs.Shown.{written}
 use Rattle.http_pages.proofs.views.project.Goals as goal
 
 pub returns : goal.returns
