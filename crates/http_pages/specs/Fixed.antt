@@ -1,8 +1,7 @@
 -- The answers in which nothing of a site is shown.
 use Rattle.std.specs.Prelude.{ℕ, List, [], ◌∷◌, ◌==◌, codes, if◌then◌else◌}
-use Rattle.http_pages.specs.declared.responses.Kind.TheVariants.{Html}
-use Rattle.http_pages.specs.Pages.{account_page, error_page}
-use Rattle.http_pages.specs.Responses.{Reply}
+use Rattle.html_pages.specs.Pages.{account_page, error_page}
+use Rattle.http_pages.specs.Responses.{Response, html}
 
 -- Why there is no page (RFC 9110, section 15).
 abbrev pub fault_text : ℕ → List ℕ
@@ -18,10 +17,5 @@ abbrev pub fixed_statuses : List ℕ
 fixed_statuses = 200 ∷ 400 ∷ 403 ∷ 404 ∷ 413 ∷ 431 ∷ 501 ∷ []
 
 -- The forms, or an error.
-abbrev pub fixed_reply : ℕ → Reply
-fixed_reply status = record {
-  status = status;
-  kind = Html;
-  further = [];
-  body = if status == 200 then account_page else error_page (fault_text status);
-}
+abbrev pub fixed_response : ℕ → Response
+fixed_response status = html status (if status == 200 then account_page else error_page (fault_text status))

@@ -1,6 +1,7 @@
-pub mod Dates
-pub mod Lines
-pub mod Pages
 pub mod Responses
 pub mod Fixed
+pub mod Views
+pub mod Rosters
+pub mod Answers
+pub mod Safe
 pub mod inner

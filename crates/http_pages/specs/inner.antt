@@ -1,3 +1,3 @@
-pub mod Bodies
-pub mod Inks
-pub mod Shown
+pub mod Cleaned
+pub mod Heads
+pub mod Leads

@@ -1,14 +1,14 @@
 //! The answers in which nothing of a site is shown.
 
 ghost use Rattle.std.specs.Prelude.{◌≡◌, ◌<◌, Contains, IfOk, if◌then◌else◌, ◌==◌};
-ghost use Rattle.http_pages.specs.Dates.{NO_DATE};
-ghost use Rattle.http_pages.specs.Fixed.{fault_text, fixed_statuses, fixed_reply};
-ghost use Rattle.http_pages.specs.Pages.{account_page, error_page};
-ghost use Rattle.http_pages.specs.Responses.{response};
-ghost use Rattle.http_pages.specs.inner.Bodies.{body_of};
+ghost use Rattle.html_pages.specs.Dates.{NO_DATE};
+ghost use Rattle.http_pages.specs.Fixed.{fault_text, fixed_statuses, fixed_response};
+ghost use Rattle.html_pages.specs.Pages.{account_page, error_page};
+ghost use Rattle.http_pages.specs.Responses.{bytes_of};
+ghost use Rattle.html_pages.specs.Bodies.{body_of};
 
-use crate::bodies::Body;
-use crate::responses::{Head, Kind, respond};
+use crate::responses::respond_html;
+use html_pages::Body;
 use std::alloc::Global;
 use trust_types::NoMemory;
 
@@ -49,13 +49,7 @@ pub fn fixed_page(
 ) -> Result<Vec<u8>, NoMemory>
     requires status { Contains fixed_statuses status }
     requires moment { moment < NO_DATE }
-    ensures { IfOk result (λ bytes. bytes.items ≡ response (fixed_reply status) close bare moment) }
+    ensures { IfOk result (λ bytes. bytes.items ≡ bytes_of (fixed_response status) close bare moment) }
 {
-    let told = Head {
-        status,
-        kind: Kind::Html,
-        further: b"",
-        close,
-    };
-    respond(alloc, &told, &fixed_body(status), bare, moment)
+    respond_html(alloc, status, &fixed_body(status), close, bare, moment)
 }

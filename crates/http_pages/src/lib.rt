@@ -1,13 +1,16 @@
 //! Pages: what a site's clients are sent.
 #![tactic(auto)]
 
-mod bodies;
-mod dates;
+mod answers;
 mod fixed;
-mod lines;
-mod lists;
-mod pens;
+mod laws;
+mod leads;
 mod responses;
-mod shown;
+mod rosters;
+mod views;
 
+pub use answers::answer_page;
 pub use fixed::fixed_page;
+pub use laws::{fixed_are_safe, refusals_are_safe, rosters_are_safe, views_are_safe};
+pub use rosters::roster_page;
+pub use views::view_page;

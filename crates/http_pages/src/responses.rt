@@ -1,15 +1,18 @@
 //! A response, head and body.
 
-ghost use Rattle.std.specs.Prelude.{◌≡◌, ◌<◌, ◌≤◌, ◌++◌, [], OnOk, IfOk, unwrap_or, decimal, length};
+ghost use Rattle.std.specs.Prelude.{◌≡◌, ◌<◌, [], OnOk, IfOk, Some, option_map, unwrap_or};
 ghost use Rattle.http.specs.StatusCode.{IsStatusCode, reason_phrase};
-ghost use Rattle.http_pages.specs.Dates.{NO_DATE};
-ghost use Rattle.http_pages.specs.Responses.{status_line, date_line, kind_word, type_line, length_line, connection_word, connection_line, head, sent, response};
-ghost use Rattle.http_pages.specs.inner.Bodies.{body_of};
-ghost use Rattle.http_pages.specs.inner.Inks.{inked};
+ghost use Rattle.html_pages.specs.Dates.{NO_DATE};
+ghost use Rattle.http_pages.specs.Responses.{html, found, failed, status_line, date_line, kind_word, type_line, length_line, location_line, cookie_line, connection_word, connection_line, head, sent, bytes_of};
+ghost use Rattle.html_pages.specs.Bodies.{body_of};
+ghost use Rattle.http_pages.specs.inner.Heads.{response_of};
+ghost use Rattle.html_pages.specs.Inks.{inked};
+ghost use Rattle.http_pages.specs.inner.Leads.{path, cookie_text};
 
-use crate::bodies::{Body, put_body};
-use crate::pens::Pen;
+use crate::leads::{Cookie, Place, put_cookie, put_place};
+use html_pages::{Body, Pen, put_body};
 use http::StatusCode;
+use http_requests::Request;
 use std::alloc::Global;
 use trust_types::NoMemory;
 
@@ -21,12 +24,13 @@ pub enum Kind {
 }
 
 /// What the head says beside the length of the body.
-#[derive(Clone, Copy)]
+#[derive(Drop)]
 pub struct Head<'a> {
     pub status: u16,
     pub kind: Kind,
-    /// The lines that it has besides.
-    pub further: &'a [u8],
+    /// The page to look at next.
+    pub location: Option<Place>,
+    pub cookie: Option<Cookie<'a>>,
     /// Whether the link is to be closed.
     pub close: bool,
 }
@@ -57,7 +61,7 @@ fn connection_word(close: bool) -> &'static str
     if close { "close" } else { "keep-alive" }
 }
 
-#[tactic(auto, using(crate::proofs::Inking::inked_twice), unfolding(crate::specs::Responses::status_line))]
+#[tactic(auto, using(html_pages::proofs::Inking::inked_twice), unfolding(crate::specs::Responses::status_line))]
 fn put_status(pen: &mut Pen, status: u16) -> Result<(), NoMemory>
     requires { IsStatusCode status }
     ensures { OnOk result (pen.new ≡ inked pen.old (status_line status)) }
@@ -70,7 +74,7 @@ fn put_status(pen: &mut Pen, status: u16) -> Result<(), NoMemory>
     Ok(())
 }
 
-#[tactic(auto, using(crate::proofs::Inking::inked_twice), unfolding(crate::specs::Responses::date_line))]
+#[tactic(auto, using(html_pages::proofs::Inking::inked_twice), unfolding(crate::specs::Responses::date_line))]
 fn put_date(pen: &mut Pen, moment: u64) -> Result<(), NoMemory>
     requires { moment < NO_DATE }
     ensures { OnOk result (pen.new ≡ inked pen.old (date_line moment)) }
@@ -81,7 +85,7 @@ fn put_date(pen: &mut Pen, moment: u64) -> Result<(), NoMemory>
     Ok(())
 }
 
-#[tactic(auto, using(crate::proofs::Inking::inked_twice), unfolding(crate::specs::Responses::type_line))]
+#[tactic(auto, using(html_pages::proofs::Inking::inked_twice), unfolding(crate::specs::Responses::type_line))]
 fn put_type(pen: &mut Pen, kind: Kind) -> Result<(), NoMemory>
     ensures { OnOk result (pen.new ≡ inked pen.old (type_line kind)) }
 {
@@ -91,7 +95,7 @@ fn put_type(pen: &mut Pen, kind: Kind) -> Result<(), NoMemory>
     Ok(())
 }
 
-#[tactic(auto, using(crate::proofs::Inking::inked_twice), unfolding(crate::specs::Responses::length_line))]
+#[tactic(auto, using(html_pages::proofs::Inking::inked_twice), unfolding(crate::specs::Responses::length_line))]
 fn put_length(pen: &mut Pen, length: usize) -> Result<(), NoMemory>
     ensures { OnOk result (pen.new ≡ inked pen.old (length_line length)) }
 {
@@ -101,7 +105,7 @@ fn put_length(pen: &mut Pen, length: usize) -> Result<(), NoMemory>
     Ok(())
 }
 
-#[tactic(auto, using(crate::proofs::Inking::inked_twice), unfolding(crate::specs::Responses::connection_line))]
+#[tactic(auto, using(html_pages::proofs::Inking::inked_twice), unfolding(crate::specs::Responses::connection_line))]
 fn put_connection(pen: &mut Pen, close: bool) -> Result<(), NoMemory>
     ensures { OnOk result (pen.new ≡ inked pen.old (connection_line close)) }
 {
@@ -111,17 +115,58 @@ fn put_connection(pen: &mut Pen, close: bool) -> Result<(), NoMemory>
     Ok(())
 }
 
-#[tactic(auto, using(crate::proofs::Inking::inked_twice), unfolding(crate::specs::Responses::head))]
+#[tactic(auto, using(html_pages::proofs::Inking::inked_twice), unfolding(crate::specs::Responses::location_line))]
+fn put_location_line(pen: &mut Pen, place: &Place) -> Result<(), NoMemory>
+    ensures { OnOk result (pen.new ≡ inked pen.old (location_line (Some (path place.now)))) }
+{
+    pen.put(b"Location: ")?;
+    put_place(pen, place)?;
+    pen.put(b"\r\n")?;
+    Ok(())
+}
+
+#[tactic(auto, unfolding(crate::specs::Responses::location_line))]
+fn put_location(pen: &mut Pen, location: &Option<Place>) -> Result<(), NoMemory>
+    ensures { OnOk result (pen.new ≡ inked pen.old (location_line (option_map path location.now))) }
+{
+    match location {
+        Some(place) => put_location_line(pen, place),
+        None => pen.put(b""),
+    }
+}
+
+#[tactic(auto, using(html_pages::proofs::Inking::inked_twice), unfolding(crate::specs::Responses::cookie_line))]
+fn put_cookie_line(pen: &mut Pen, cookie: &Cookie<'_>) -> Result<(), NoMemory>
+    ensures { OnOk result (pen.new ≡ inked pen.old (cookie_line (Some (cookie_text cookie.now)))) }
+{
+    pen.put(b"Set-Cookie: ")?;
+    put_cookie(pen, cookie)?;
+    pen.put(b"\r\n")?;
+    Ok(())
+}
+
+#[tactic(auto, unfolding(crate::specs::Responses::cookie_line))]
+fn put_set_cookie(pen: &mut Pen, cookie: &Option<Cookie<'_>>) -> Result<(), NoMemory>
+    ensures { OnOk result (pen.new ≡ inked pen.old (cookie_line (option_map cookie_text cookie.now))) }
+{
+    match cookie {
+        Some(cookie) => put_cookie_line(pen, cookie),
+        None => pen.put(b""),
+    }
+}
+
+#[tactic(auto, using(html_pages::proofs::Inking::inked_twice), unfolding(crate::specs::Responses::head))]
 fn put_head(pen: &mut Pen, told: &Head<'_>, length: usize, moment: u64) -> Result<(), NoMemory>
     requires status { IsStatusCode told.now.status }
     requires moment { moment < NO_DATE }
-    ensures { OnOk result (pen.new ≡ inked pen.old (head told.now.status told.now.kind length told.now.further.now told.now.close moment)) }
+    ensures { OnOk result (pen.new ≡ inked pen.old (head told.now.status told.now.kind length (option_map path told.now.location) (option_map cookie_text told.now.cookie) told.now.close moment)) }
 {
     put_status(pen, told.status)?;
     put_date(pen, moment)?;
     put_type(pen, told.kind)?;
     put_length(pen, length)?;
-    pen.put(told.further)?;
+    put_location(pen, &told.location)?;
+    put_set_cookie(pen, &told.cookie)?;
     put_connection(pen, told.close)?;
     pen.put(b"\r\n")?;
     Ok(())
@@ -144,8 +189,7 @@ pub fn respond(
 ) -> Result<Vec<u8>, NoMemory>
     requires status { IsStatusCode told.now.status }
     requires moment { moment < NO_DATE }
-    ensures { let shown = body_of body.now in
-        IfOk result (λ bytes. bytes.items ≡ head told.now.status told.now.kind (length shown) told.now.further.now told.now.close moment ++ sent bare shown) }
+    ensures { IfOk result (λ bytes. bytes.items ≡ bytes_of (response_of told.now body.now) told.now.close bare moment) }
 {
     let mut counter = Pen::counting();
     put_body(&mut counter, body)?;
@@ -157,4 +201,62 @@ pub fn respond(
     put_head(&mut pen, told, length, moment)?;
     put_sent(&mut pen, body, bare)?;
     Ok(pen.into_text(alloc))
+}
+
+/// The response of a status and a body of HTML.
+pub fn respond_html(
+    alloc: Global,
+    status: u16,
+    body: &Body<'_>,
+    close: bool,
+    bare: bool,
+    moment: u64,
+) -> Result<Vec<u8>, NoMemory>
+    requires status { IsStatusCode status }
+    requires moment { moment < NO_DATE }
+    ensures { IfOk result (λ bytes. bytes.items ≡ bytes_of (html status (body_of body.now)) close bare moment) }
+{
+    let told = Head {
+        status,
+        kind: Kind::Html,
+        location: None,
+        cookie: None,
+        close,
+    };
+    respond(alloc, &told, body, bare, moment)
+}
+
+/// The page that a request asked for.
+pub fn found(
+    alloc: Global,
+    request: &Request,
+    body: &Body<'_>,
+    moment: u64,
+) -> Result<Vec<u8>, NoMemory>
+    requires { moment < NO_DATE }
+    ensures { IfOk result (λ bytes. bytes.items ≡ bytes_of (found (body_of body.now)) request.now.close request.now.bare moment) }
+{
+    respond_html(alloc, 200, body, request.close, request.bare, moment)
+}
+
+/// The page that says why there is none for a request.
+pub fn failed(
+    alloc: Global,
+    request: &Request,
+    status: u16,
+    text: &str,
+    moment: u64,
+) -> Result<Vec<u8>, NoMemory>
+    requires status { IsStatusCode status }
+    requires moment { moment < NO_DATE }
+    ensures { IfOk result (λ bytes. bytes.items ≡ bytes_of (failed status text.now) request.now.close request.now.bare moment) }
+{
+    respond_html(
+        alloc,
+        status,
+        &Body::Error(text),
+        request.close,
+        request.bare,
+        moment,
+    )
 }

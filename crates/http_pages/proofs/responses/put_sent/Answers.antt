@@ -1,4 +1,4 @@
-use Rattle.http_pages.proofs.Inking.{inked_nothing}
+use Rattle.html_pages.proofs.Inking.{inked_nothing}
 use Rattle.http_pages.proofs.responses.put_sent.Goals as goal
 
 pub returns-then-bare : goal.returns-then-bare

@@ -1,6 +1,6 @@
 use Rattle.std.proofs.Common.{refl}
 use Rattle.http_pages.specs.Responses.{type_line}
-use Rattle.http_pages.proofs.Inking.{inked_twice}
+use Rattle.html_pages.proofs.Inking.{inked_twice}
 use Rattle.http_pages.proofs.responses.put_type.Goals as goal
 
 pub returns : goal.returns

@@ -1,0 +1,8 @@
+use Rattle.std.proofs.Common.{refl, append_assoc}
+use Rattle.html_pages.specs.Pages.{page, project_page}
+use Rattle.html_pages.proofs.Inking.{inked_twice}
+use Rattle.html_pages.proofs.bodies.put_project.Goals as goal
+
+pub returns : goal.returns
+unfolding page project_page
+returns c = rw (c.in_ok-close_page.ensures, c.in_ok-put_written.ensures, c.in_ok-open_page.ensures, c.bytes.ensures.all) (simp (inked_twice, append_assoc) refl)

@@ -1,8 +1,0 @@
-use Rattle.std.proofs.Common.{refl}
-use Rattle.http_pages.specs.Pages.{opening}
-use Rattle.http_pages.proofs.Inking.{inked_twice}
-use Rattle.http_pages.proofs.bodies.open_page.Goals as goal
-
-pub returns : goal.returns
-unfolding opening
-returns c = rw (c.in_ok-put-5.ensures, c.in_ok-put-4.ensures, c.in_ok-put-3.ensures, c.in_ok-put-2.ensures, c.in_ok-put.ensures) (simp inked_twice refl)

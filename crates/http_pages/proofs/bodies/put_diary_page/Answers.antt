@@ -1,9 +1,0 @@
-use Rattle.std.proofs.Common.{refl, append_assoc}
-use Rattle.http_pages.specs.Pages.{page}
-use Rattle.http_pages.specs.inner.Bodies.{diary_page}
-use Rattle.http_pages.proofs.Inking.{inked_twice}
-use Rattle.http_pages.proofs.bodies.put_diary_page.Goals as goal
-
-pub returns : goal.returns
-unfolding page diary_page
-returns c = rw (c.in_ok-close_page.ensures, c.in_ok-put_diary.ensures, c.in_ok-open_diary.ensures, c.bytes.ensures.all) (simp (inked_twice, append_assoc) refl)

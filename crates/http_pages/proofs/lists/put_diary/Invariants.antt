@@ -1,8 +1,0 @@
-use Rattle.std.proofs.Common.{◌≡◌, take}
-use Rattle.std.specs.List.{flat_map}
-use Rattle.http_pages.specs.inner.Inks.{inked}
-use Rattle.http_pages.specs.inner.Shown.{entry}
-use Rattle.http_pages.proofs.lists.put_diary.Given as goal
-
-abbrev pub invariant-loop-post : goal.invariant-loop-post
-invariant-loop-post l = l.pen ≡ inked l.initial.pen (flat_map entry (take l.post-index l.posts))

@@ -1,8 +1,0 @@
-use Rattle.std.proofs.Common.{◌≡◌, take}
-use Rattle.std.specs.List.{flat_map}
-use Rattle.http_pages.specs.Lines.{spaced}
-use Rattle.http_pages.specs.inner.Inks.{inked}
-use Rattle.http_pages.proofs.lists.put_entries.Given as goal
-
-abbrev pub invariant-loop-entry : goal.invariant-loop-entry
-invariant-loop-entry l = l.pen ≡ inked l.initial.pen (flat_map spaced (take l.entry-index l.entries))
