@@ -40,12 +40,7 @@ fn rows_left(alloc: Global, kept: &Kept<MemKeeper>) -> Result<Vec<Vec<u8>>, NoMe
 
 impl Asked<'_> {
     /// Runs it over these bytes, and a keeper of these rows.
-    pub fn try_out(
-        &self,
-        alloc: Global,
-        bytes: &[u8],
-        rows: &[Vec<u8>],
-    ) -> Result<Told, NoMemory> {
+    pub fn try_out(&self, alloc: Global, bytes: &[u8], rows: &[Vec<u8>]) -> Result<Told, NoMemory> {
         if let Some(piece) = self.piece {
             return self.run_in(alloc, bytes, rows, piece.max(1));
         }

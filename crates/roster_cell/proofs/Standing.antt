@@ -56,13 +56,15 @@ lent_is_latest h o (Some q) lent is number = (sym (ap number_of lent) ∙ number
 last-one : (h : History) (q : Publication) (p : Published) → IsLegal h → last_published h ≡ Some p → StandsFor h.opening (records h) q p → IsLatest h q
 last-one h q p legal last stands =
     let found = last_is h p legal last in
-    let same : p.number ≡ q.number = ap (λ (z : Published). z.number) stands.same in
-    (sym same ∙ found.0, record {
-      counted = subst (λ (n : ℕ). 0 < n) same found.2;
-      published = p;
-      is_there = ap (λ (n : ℕ). slice_get (publications h) (n - 1)) (sym same) ∙ found.3;
-      stands = stands;
-    })
+    let same : p.number ≡ q.number = ap (λ (z : Published). z.number) stands.same in (
+      sym same ∙ found.0,
+      record {
+        counted = subst (λ (n : ℕ). 0 < n) same found.2;
+        published = p;
+        is_there = ap (λ (n : ℕ). slice_get (publications h) (n - 1)) (sym same) ∙ found.3;
+        stands = stands;
+      },
+    )
 
 last-some : {A : Type 0} (x : A) (l : List A) → last_or (Some x) l ≡ None → ⊥
 last-some x [] none = cc

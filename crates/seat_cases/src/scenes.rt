@@ -44,7 +44,12 @@ impl Scene {
     }
 
     /// Takes a step: one of seat 1 here, one of seat 2 in another thread.
-    fn take<R: Threads + Wait + Sync>(self, rt: &R, alloc: Global, step: &str) -> Result<(Scene, String)> {
+    fn take<R: Threads + Wait + Sync>(
+        self,
+        rt: &R,
+        alloc: Global,
+        step: &str,
+    ) -> Result<(Scene, String)> {
         let Some((number, step)) = step.split_once(": ") else {
             bail!("a step begins with a seat")
         };
@@ -56,13 +61,33 @@ impl Scene {
     }
 
     fn here<R: Wait>(self, rt: &R, alloc: Global, step: &str) -> Result<(Scene, String)> {
-        let Scene { site, first, second } = self;
+        let Scene {
+            site,
+            first,
+            second,
+        } = self;
         let (first, answer) = with_seat(rt, alloc, &site, first, step);
-        Ok((Scene { site, first, second }, answer?))
+        Ok((
+            Scene {
+                site,
+                first,
+                second,
+            },
+            answer?,
+        ))
     }
 
-    fn apart<R: Threads + Wait + Sync>(self, rt: &R, alloc: Global, step: &str) -> Result<(Scene, String)> {
-        let Scene { site, first, second } = self;
+    fn apart<R: Threads + Wait + Sync>(
+        self,
+        rt: &R,
+        alloc: Global,
+        step: &str,
+    ) -> Result<(Scene, String)> {
+        let Scene {
+            site,
+            first,
+            second,
+        } = self;
         let shared = &site;
         let (_, (second, answer)) = join(
             rt,
@@ -72,14 +97,29 @@ impl Scene {
                 ensures { result.0.site ≡ second.site }
             { with_seat(rt, alloc, shared, second, step) },
         );
-        Ok((Scene { site, first, second }, answer?))
+        Ok((
+            Scene {
+                site,
+                first,
+                second,
+            },
+            answer?,
+        ))
     }
 
     /// Closes the site with seat 1.
     fn close(self, alloc: Global) -> Result<String, AllocError> {
-        let Scene { site, first, second: _ } = self;
+        let Scene {
+            site,
+            first,
+            second: _,
+        } = self;
         match site.close(first) {
-            Ok(book) => format!(in alloc; "a book of {} entries, {} of them publications", book.length(), book.published()),
+            Ok(book) => format!(in alloc;
+                "a book of {} entries, {} of them publications",
+                book.length(),
+                book.published()
+            ),
             Err(away) => format!(in alloc; "{away}"),
         }
     }
@@ -109,7 +149,11 @@ fn add_answer(shown: &mut String, step: &str, answer: &str) -> Result<(), AllocE
 }
 
 /// A scene with the answers to its steps.
-pub(crate) fn played<R: Threads + Wait + Sync>(rt: &R, alloc: Global, text: &str) -> Result<String> {
+pub(crate) fn played<R: Threads + Wait + Sync>(
+    rt: &R,
+    alloc: Global,
+    text: &str,
+) -> Result<String> {
     let mut shown = String::new(alloc);
     let mut scene = Scene::open(alloc)?;
     for step in text.lines() {

@@ -69,7 +69,10 @@ fn publish<K: Keeper, R: Wait>(
     let answer = meanwhile(rt, alloc, site, seat, act)?;
     let candidate = solve_alone(alloc, &graph)?;
     match site.publish(rt, seat, candidate) {
-        Ok(number) => Ok(format!(in alloc; "meanwhile {answer}; publication {number} of revision {}", graph.revision())?),
+        Ok(number) => Ok(format!(in alloc;
+            "meanwhile {answer}; publication {number} of revision {}",
+            graph.revision()
+        )?),
         Err(fault) => Ok(format!(in alloc; "meanwhile {answer}; {fault}")?),
     }
 }
@@ -81,7 +84,10 @@ fn news<K: Keeper>(alloc: Global, site: &Site<K>, seat: &mut Seat<K>) -> Result<
 {
     let front = site.news(seat);
     let word = front.entries * 1_048_576 + u64::from(front.publications);
-    format!(in alloc; "{} entries, {} publications: {word}", front.entries, front.publications)
+    format!(in alloc;
+        "{} entries, {} publications: {word}",
+        front.entries, front.publications
+    )
 }
 
 /// The entries of a diary, newest first.
@@ -108,7 +114,12 @@ fn diary<K: Keeper, R: Wait>(
 }
 
 /// Splits a seat so often. Gives how often it was split, and why no oftener.
-fn split<K: Keeper>(alloc: Global, site: &Site<K>, seat: &mut Seat<K>, times: u32) -> Result<String, AllocError>
+fn split<K: Keeper>(
+    alloc: Global,
+    site: &Site<K>,
+    seat: &mut Seat<K>,
+    times: u32,
+) -> Result<String, AllocError>
     requires { seat.old.site ≡ site.now.table.shared.table_id }
     ensures { seat.new.site ≡ seat.old.site }
 {
