@@ -3,7 +3,7 @@ ghost use Rattle.std.specs.Prelude.{◌≤◌};
 use crate::asked::Asked;
 use commands::Status;
 use outside::{MemKeeper, MemSink, MemSource};
-use site_runs::{Kept, run};
+use site_runs::{Kept, Ran, run};
 use std::alloc::Global;
 use trust_types::NoMemory;
 
@@ -30,12 +30,14 @@ pub fn copy_of(alloc: Global, rows: &[Vec<u8>]) -> Result<Vec<Vec<u8>>, NoMemory
     Ok(copy)
 }
 
-/// A copy of the rows that a run left.
-fn rows_left(alloc: Global, kept: &Kept<MemKeeper>) -> Result<Vec<Vec<u8>>, NoMemory> {
-    match kept {
+/// How a run ended, and a copy of the rows that its keeper has.
+fn ended(alloc: Global, ran: Ran<MemKeeper>) -> Result<(Status, Vec<Vec<u8>>), NoMemory> {
+    let status = ran.status;
+    let rows = match ran.kept {
         Kept::Keeper(keeper) => copy_of(alloc, keeper.rows()),
         Kept::Book(book) => copy_of(alloc, book.keeper().rows()),
-    }
+    };
+    Ok((status, rows?))
 }
 
 impl Asked<'_> {
@@ -91,11 +93,11 @@ impl Asked<'_> {
         let mut source = MemSource::new(input, piece, self.reads.to_vec(alloc)?);
         let mut sink = MemSink::new(alloc, self.room, piece, self.writes.to_vec(alloc)?)?;
         let keeper = MemKeeper::new(alloc, copy_of(alloc, rows)?, self.keeps.to_vec(alloc)?);
-        let ran = run(alloc, words, &mut source, &mut sink, keeper);
+        let (status, rows) = ended(alloc, run(alloc, words, &mut source, &mut sink, keeper))?;
         Ok(Told {
-            status: ran.status,
+            status,
             written: sink.bytes().to_vec(alloc)?,
-            rows: rows_left(alloc, &ran.kept)?,
+            rows,
             differs: false,
         })
     }
