@@ -18,35 +18,16 @@ shown.
 
 import resource
 import sqlite3
-import subprocess
 import sys
 import tempfile
 import time
 from multiprocessing import get_context
 from pathlib import Path
 
-from measured import measure_in_turn
+from measured import build_cases, measure_in_turn, random_pairs
 
 CRATE = Path(__file__).resolve().parent.parent / "crates" / "cert_book_cases"
 FREEZES = 10_000
-MASK = 2**64 - 1
-
-
-def build():
-    with open(CRATE / "stdin", "rb") as cases:
-        subprocess.run(["rt", "run"], cwd=CRATE, stdin=cases, stdout=subprocess.DEVNULL, stderr=subprocess.DEVNULL, check=True)
-
-
-def random_pairs(certificates, accounts):
-    """The pairs that the program makes, by Knuth's multiplier."""
-    number = 1
-    for _ in range(certificates):
-        giver = (number >> 33) % accounts
-        number = (number * 6364136223846793005 + 1442695040888963407) & MASK
-        taker = (number >> 33) % accounts
-        number = (number * 6364136223846793005 + 1442695040888963407) & MASK
-        if giver != taker:
-            yield giver, taker
 
 
 def by_program(path, accounts, steps, runs):
@@ -102,7 +83,7 @@ def show(title, seconds, megabytes, certificates):
 def main():
     words = [int(word) for word in sys.argv[1:]]
     certificates, accounts, runs = words + [2_000_000, 100_000, 3][len(words) :]
-    build()
+    build_cases(CRATE)
     with tempfile.TemporaryDirectory() as folder:
         path = Path(folder) / "steps"
         empty, empty_held = by_program(path, accounts, ["certs 0"], runs)

@@ -46,3 +46,22 @@ def measure_in_turn(commands, text, count):
     """Runs each command so many times over this text, in turn, so that what else the machine does falls on all alike."""
     rounds = [[run_once(words, text) for words in commands] for _ in range(count)]
     return [best_of(runs) for runs in zip(*rounds)]
+
+
+def build_cases(crate):
+    """Builds the program of a crate that shows cases, where it has to be built, by a run over its stored ones."""
+    with open(crate / "stdin", "rb") as cases:
+        subprocess.run(["rt", "run"], cwd=crate, stdin=cases, stdout=subprocess.DEVNULL, stderr=subprocess.DEVNULL, check=True)
+
+
+def random_pairs(certificates, accounts):
+    """The pairs of accounts that the programs of cases make, by Knuth's multiplier."""
+    mask = 2**64 - 1
+    number = 1
+    for _ in range(certificates):
+        giver = (number >> 33) % accounts
+        number = (number * 6364136223846793005 + 1442695040888963407) & mask
+        taker = (number >> 33) % accounts
+        number = (number * 6364136223846793005 + 1442695040888963407) & mask
+        if giver != taker:
+            yield giver, taker

@@ -16,7 +16,6 @@ shown.
 """
 
 import sqlite3
-import subprocess
 import sys
 import tempfile
 import time
@@ -24,29 +23,17 @@ from multiprocessing import get_context
 from pathlib import Path
 from urllib.parse import parse_qs
 
-from measured import measure_in_turn
+from measured import build_cases, measure_in_turn, random_pairs
 
 CRATE = Path(__file__).resolve().parent.parent / "crates" / "site_cases"
 FREEZES = 10_000
 MILLION = 1_000_000
-MASK = 2**64 - 1
 
 
-def build():
-    with open(CRATE / "stdin", "rb") as cases:
-        subprocess.run(["rt", "run"], cwd=CRATE, stdin=cases, stdout=subprocess.DEVNULL, stderr=subprocess.DEVNULL, check=True)
-
-
-def random_pairs(certificates, accounts):
-    """The pairs that the program makes, by Knuth's multiplier."""
-    number = 1
-    for _ in range(certificates):
-        giver = (number >> 33) % accounts
-        number = (number * 6364136223846793005 + 1442695040888963407) & MASK
-        taker = (number >> 33) % accounts
-        number = (number * 6364136223846793005 + 1442695040888963407) & MASK
-        if giver != taker:
-            yield f"n{giver}", f"n{taker}"
+def named_pairs(certificates, accounts):
+    """The names of the accounts of random pairs."""
+    for giver, taker in random_pairs(certificates, accounts):
+        yield f"n{giver}", f"n{taker}"
 
 
 def by_program(path, accounts, steps, runs):
@@ -130,7 +117,7 @@ def keep_in_sqlite(pairs, accounts):
 
 
 def measure_alone(prepared, certificates, accounts, results):
-    work = prepared(list(random_pairs(certificates, accounts)), accounts)
+    work = prepared(list(named_pairs(certificates, accounts)), accounts)
     start = time.process_time()
     work()
     results.put(time.process_time() - start)
@@ -155,7 +142,7 @@ def main():
     words = [int(word) for word in sys.argv[1:]]
     certificates, accounts, runs = words + [MILLION, 100_000, 3][len(words) :]
     rows = certificates + accounts
-    build()
+    build_cases(CRATE)
     with tempfile.TemporaryDirectory() as folder:
         path = Path(folder) / "steps"
         empty, _ = by_program(path, accounts, [f"certs 0 n {accounts}"], runs)
