@@ -18,7 +18,7 @@ use Rattle.cut_check.specs.declared.proofs.Proof.{Proof}
 use Rattle.cut_check.specs.declared.checks.RootFigures.{RootFigures}
 use Rattle.cut_check.specs.Rules.{EndsInside}
 use Rattle.cut_check.specs.inner.Searches.{FindsPair}
-use Rattle.cut_check.specs.inner.Sides.{side_by}
+use Rattle.cut_check.specs.Sides.{side_by}
 use Rattle.cut_check.specs.inner.Figures.{AreFigures}
 
 pub found_of_cut : {p : Proof} {root : RootFigures} {ins outs : List ℕ} {at : List Side} {caps : List ℕ} → AreFigures p root ins outs at caps →

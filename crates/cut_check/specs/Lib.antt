@@ -1,6 +1,7 @@
 pub mod Rules
 pub mod Firsts
 pub mod Verdict
+pub mod Sides
 pub mod Check
 pub mod Line
 pub mod Laws

@@ -11,7 +11,7 @@ ghost use Rattle.trust_types.specs.Lines.{flow_of};
 ghost use Rattle.trust_types.specs.Lines.{IsNodeAmong, IsLineAmong, IsLineBefore};
 ghost use Rattle.cut_check.specs.Rules.{KeepsToEdge, EndsInside};
 ghost use Rattle.cut_check.specs.inner.Searches.{FindsAccount, FindsPair};
-ghost use Rattle.cut_check.specs.inner.Sides.{side_by};
+ghost use Rattle.cut_check.specs.Sides.{side_by};
 ghost use Rattle.cut_check.specs.inner.Cursor.{AreLesser, HasPassed};
 
 use trust_types::{AccountNo, CertGraph, FlowLine, Level, Node, Side};

@@ -16,4 +16,5 @@ pub use laws::proven_is_passed;
 pub use lines::print_verdict;
 pub use proofs::Proof;
 pub use scratch::Scratch;
+pub use sides::{cut_value, lay_out};
 pub use verdicts::Verdict;

@@ -8,11 +8,13 @@ ghost use Rattle.trust_types.specs.Capacity.{cap_by};
 ghost use Rattle.trust_types.specs.Cut.{value, root_share, account_share};
 ghost use Rattle.trust_types.specs.Lines.{same_node, sides_of};
 ghost use Rattle.trust_types.specs.Lines.{IsNodeAmong};
-ghost use Rattle.cut_check.specs.inner.Sides.{side_by};
+ghost use Rattle.cut_check.specs.Sides.{side_by};
 
 use trust_types::{Node, Side};
 
-/// Notes for each account on which side of the cut it lies, and gives the root's side.
+/// Notes for each account on which side of the cut it lies, by the lists of the nodes that pass and of those that are full, and gives the
+/// root's side. What the slice had before doesn't matter; a node in neither list lies outside, one in both passes. It takes no memory, and time linear in
+/// the accounts and the lists.
 pub fn lay_out(pass: &[Node], full: &[Node], sides: &mut [Side]) -> Side
     requires pass { All (IsNodeAmong (length sides.old)) pass.now }
     requires full { All (IsNodeAmong (length sides.old)) full.now }
@@ -48,7 +50,8 @@ fn put(node: &Node, side: Side, root: &mut Side, sides: &mut [Side])
     }
 }
 
-/// The cut's value: a passing account counts once, a full one by its capacity, and a full root by its capacity less one.
+/// The cut's value: a passing account counts once, a full one by its capacity, and a full root by its capacity less one. It takes
+/// no memory, and time linear in the accounts.
 pub fn cut_value(root: Side, root_capacity: u32, sides: &[Side], capacities: &[u32]) -> u64
     requires few { length sides.now < 2 ^ 32 }
     requires capacities { length capacities.now ≡ length sides.now }

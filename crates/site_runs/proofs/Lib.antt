@@ -1,1 +1,3 @@
 pub mod Played
+mod Counting
+mod Worth

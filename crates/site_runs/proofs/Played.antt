@@ -1,5 +1,5 @@
 -- A script that was read is played as what its text says.
-use Rattle.std.proofs.Common.{◌≡◌, ℕ, List, IfSome, sym, ap, ◌∙◌, subst}
+use Rattle.std.proofs.Common.{◌≡◌, ℕ, List, IfSome, ap, ◌∙◌, subst}
 use Rattle.trust_types.specs.declared.records.Record.{Record}
 use Rattle.trust_types.specs.Tables.{Table}
 use Rattle.outside.specs.KeptRows.{ToldRows}

@@ -1,3 +1,4 @@
 pub mod Words
+pub mod Drills
 pub mod Runs
 pub mod inner

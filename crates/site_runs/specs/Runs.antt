@@ -24,7 +24,8 @@ use Rattle.script.specs.Runs as scripts
 use Rattle.script.specs.Stages.{stage_at_first}
 use Rattle.site_runs.specs.declared.ran.Kept.{Kept}
 use Rattle.site_runs.specs.declared.ran.Kept.TheVariants.{Keeper, Book}
-use Rattle.site_runs.specs.Words.{is_script}
+use Rattle.site_runs.specs.Words.{is_script, drill_of}
+use Rattle.site_runs.specs.Drills.{ComesToDrill}
 
 -- The most bytes of a script: 64 MiB.
 abbrev pub MOST_SCRIPT_BYTES : ℕ
@@ -42,6 +43,11 @@ abbrev pub IsRunOf : List ScriptLine → History → History → Answer → Type
 IsRunOf lines before after answer =
     ((answer.status ≡ status.Done) × scripts.RunsTo lines (stage_at_first before) after [] answer.text.items)
     ⊎ ((answer.status ≡ status.NoMemory) × scripts.PartRunsTo lines (stage_at_first before) after [] answer.text.items)
+
+-- Where no script is played, a run makes a drill, for which it reads nothing, or does another command.
+abbrev pub RunsApart : Option ℕ → List (List ℕ) → Input → Input → Outcome → Type 0
+RunsApart (Some number) words before now outcome = ComesToDrill number outcome × (now ≡ before)
+RunsApart None words before now outcome = ComesTo (command_of words) before now outcome
 
 module _ {K : Type 0} (rows : K → ToldRows) (faults : K → ℕ) where
   -- No site was opened over the keeper, which has its rows as they were: its first row that is refused, or a fault that it counted.
@@ -98,7 +104,7 @@ module _ {K : Type 0} (rows : K → ToldRows) (faults : K → ℕ) where
   abbrev pub RunsBy : Bool → List (List ℕ) → Input → Input → Output → Output → K → Kept K → Status → Type 0
   RunsBy true words before now held holds keeper kept ends = (outcome : Outcome) × ComesToScript before now keeper kept outcome × IsTold outcome held holds ends
   RunsBy false words before now held holds keeper kept ends =
-      (outcome : Outcome) × ComesTo (command_of words) before now outcome × IsTold outcome held holds ends × (kept ≡ Keeper keeper)
+      (outcome : Outcome) × RunsApart (drill_of words) words before now outcome × IsTold outcome held holds ends × (kept ≡ Keeper keeper)
 
   abbrev pub RunsTo : List (List ℕ) → Input → Input → Output → Output → K → Kept K → Status → Type 0
   RunsTo words before now held holds keeper kept ends = RunsBy (is_script words) words before now held holds keeper kept ends

@@ -1,9 +1,10 @@
 //! What the words of a command line ask of a site.
 
 ghost use Rattle.std.specs.Prelude.{◌≡◌, ◌∷◌, [], map, Some, None, IfOk, MatchOption, IsTrue, is_some};
-ghost use Rattle.site_runs.specs.Words.{file_of, is_script, wants_of};
+ghost use Rattle.site_runs.specs.Words.{drill_of, file_of, is_script, wants_of};
 
 use std::alloc::Global;
+use text_lines::number;
 use trust_types::{NoMemory, Text};
 
 /// What the program needs for its words, before it runs.
@@ -39,6 +40,27 @@ pub(crate) fn is_script(words: &[&str]) -> bool
         [command] => *command == "script",
         [command, option, file] => is_script_on(command, option, file),
         _ => false,
+    }
+}
+
+/// The number of the words `drill N`; `None` for other words.
+pub(crate) fn drill_of(words: &[&str]) -> Option<u32>
+    ensures { result ≡ drill_of (map (λ word. word.now) words.now) }
+{
+    match words {
+        [command, word] => number_behind(command, word),
+        _ => None,
+    }
+}
+
+/// The number of a word behind `drill`.
+fn number_behind(command: &str, word: &str) -> Option<u32>
+    ensures { result ≡ drill_of (command.now ∷ word.now ∷ []) }
+{
+    if command == "drill" {
+        number(word.as_bytes())
+    } else {
+        None
     }
 }
 

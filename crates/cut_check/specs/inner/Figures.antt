@@ -9,7 +9,7 @@ use Rattle.trust_types.specs.Flow.{units_out}
 use Rattle.trust_types.specs.Lines.{flow_of, sides_of}
 use Rattle.cut_check.specs.declared.proofs.Proof.{Proof}
 use Rattle.cut_check.specs.declared.checks.RootFigures.{RootFigures}
-use Rattle.cut_check.specs.inner.Sides.{side_by}
+use Rattle.cut_check.specs.Sides.{side_by}
 use Rattle.cut_check.specs.inner.Sums.{AreSums}
 
 -- The root's figures and lists of the accounts': the capacities of the nodes, the sums of the flow, the sides of the cut.

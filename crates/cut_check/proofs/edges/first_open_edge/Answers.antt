@@ -4,7 +4,7 @@ use Rattle.trust_types.specs.declared.accounts.Node.{Node}
 use Rattle.trust_types.specs.declared.accounts.Node.TheVariants.{Root, Account}
 use Rattle.trust_types.specs.Lines.{place}
 use Rattle.cut_check.specs.Rules.{EndsInside}
-use Rattle.cut_check.specs.inner.Sides.{side_by}
+use Rattle.cut_check.specs.Sides.{side_by}
 use Rattle.cut_check.proofs.edges.first_open_edge.Goals as goal
 
 -- What holds up to a place and at the account behind it holds up to there.

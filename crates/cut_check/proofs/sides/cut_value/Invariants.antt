@@ -1,5 +1,5 @@
 use Rattle.trust_types.specs.Capacity.{cap_by}
-use Rattle.cut_check.specs.inner.Sides.{side_by}
+use Rattle.cut_check.specs.Sides.{side_by}
 use Rattle.cut_check.proofs.Values.{IsValueSoFar}
 use Rattle.cut_check.proofs.sides.cut_value.Given as goal
 

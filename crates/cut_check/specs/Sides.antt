@@ -1,4 +1,4 @@
--- The sides of a cut as an array has them. The crate's own functions alone speak of it.
+-- The sides of a cut as an array has them.
 use Rattle.std.specs.Prelude.{List, slice_index_or}
 use Rattle.trust_types.specs.declared.accounts.Node.TheVariants.{Root, Account}
 use Rattle.trust_types.specs.declared.flows.Side.{Side}
