@@ -1,35 +1,18 @@
 -- What actors have goes on to suit a site whose history grows.
-use Rattle.std.proofs.Common.{ℕ, ◌≡◌, ◌≤◌, ◌-◌, List, [], ◌++◌, length, get_or, replicate, Option, Some, None, Result, Ok, Err, IfSome, OnOk, option_to_list, sym, ap, subst, ◌∙◌, refl, ⊎_elim, inl, inr, arith, length-append}
+use Rattle.std.proofs.Common.{ℕ, ◌≡◌, ◌-◌, List, [], ◌++◌, length, get_or, replicate, Option, Some, None, Result, Ok, Err, IfSome, OnOk, option_to_list, sym, subst, ◌∙◌, refl, ⊎_elim, inl, inr}
 use Rattle.std.proofs.lemmas.Bool.{cases_lt}
 use Rattle.std.proofs.lemmas.List.{length-set, length-replicate, get_or_past}
-use Rattle.std.proofs.lemmas.List.Elements.{All-set, All-replicate, filter_map-append}
+use Rattle.std.proofs.lemmas.List.Elements.{All-set, All-replicate}
 use Rattle.trust_types.specs.declared.records.Record.{Record}
-use Rattle.trust_types.specs.Kept.{changes, change_of, revision, upto}
 use Rattle.trust_types.specs.Tables.{Table}
 use Rattle.frozen.specs.Revision.{Revision}
 use Rattle.roster_form.specs.Candidates.{Rosters}
 use Rattle.site_history.specs.Histories.{Entry, History, with_entry, records, record_added}
-use Rattle.site_history.specs.Legal.{IsFrozenOf, IsLegal, Meets, Suits}
+use Rattle.site_history.specs.Legal.{IsFrozenOf, IsOfPast, IsLegal, Meets, Suits}
 use Rattle.site_history.proofs.Growing.{records-add}
-use Rattle.site_history.proofs.Revisions.{frozen_later, frozen_now}
+use Rattle.site_history.proofs.Revisions.{past_later, past_now}
 use Rattle.script.specs.Stages.{Holdings, nothing_held, held_by, with_held, with_kept, without_candidate}
-use Rattle.script.specs.inner.Ready.{IsOfPast, SuitsAll, AreReady, Grows, FindsBy, Finds}
-
--- the revision doesn't fall, whatever records follow
-revision-later : (k l : List Record) → revision k ≤ revision (k ++ l)
-revision-later k l = omega (arith, ap length (filter_map-append change_of k l), length-append (changes k) (changes l))
-
-past_later : (opening : Table) (k l : List Record) (f : Revision) → IsOfPast opening k f → IsOfPast opening (k ++ l) f
-past_later opening k l f is = record {
-  past = omega (arith, is.past, revision-later k l);
-  graph = frozen_later opening k l f.number f is.past is.graph;
-}
-
-suits_later : (opening : Table) (k l : List Record) (c : Rosters) → Suits opening k c → Suits opening (k ++ l) c
-suits_later opening k l c is = record {
-  past = omega (arith, is.past, revision-later k l);
-  graph = frozen_later opening k l c.graph.number c.graph is.past is.graph;
-}
+use Rattle.script.specs.inner.Ready.{SuitsAll, AreReady, Grows, FindsBy, Finds}
 
 if_some : {A : Type 0} (P Q : A → Type 0) (o : Option A) → ((x : A) → P x → Q x) → IfSome o P → IfSome o Q
 if_some P Q None f is = tt
@@ -38,7 +21,7 @@ if_some P Q (Some x) f is = f x is
 held_later : (opening : Table) (k l : List Record) (held : Holdings) → SuitsAll opening k held → SuitsAll opening (k ++ l) held
 held_later opening k l held is = record {
   kept = if_some (IsOfPast opening k) (IsOfPast opening (k ++ l)) held.kept (past_later opening k l) is.kept;
-  candidate = if_some (Suits opening k) (Suits opening (k ++ l)) held.candidate (suits_later opening k l) is.candidate;
+  candidate = if_some (Suits opening k) (Suits opening (k ++ l)) held.candidate (λ c. past_later opening k l c.graph) is.candidate;
 }
 
 ready_with : (h : History) (e : Entry) (actors : List Holdings) → AreReady h actors → AreReady (with_entry h e) actors
@@ -67,17 +50,10 @@ ready_set h actors n held is suits = record {
   each = All-set (SuitsAll h.opening (records h)) actors (n - 1) held suits is.each;
 }
 
--- a graph of all records is of the past
-of_past : (opening : Table) (k : List Record) (f : Revision) → IsFrozenOf opening k f → IsOfPast opening k f
-of_past opening k f is = record {
-  past = omega (arith, is.number);
-  graph = subst (λ (r : ℕ). IsFrozenOf opening (upto k r) f) (sym is.number) (frozen_now opening k f is);
-}
-
 pub ready_kept : (h : History) (actors : List Holdings) (n : ℕ) (f : Revision) → AreReady h actors → IsFrozenOf h.opening (records h) f → AreReady h (with_kept actors n f)
 ready_kept h actors n f is frozen =
     ready_set h actors n (record (held_by actors n) { kept = Some f }) is
-    (record { kept = of_past h.opening (records h) f frozen; candidate = (ready_at h actors n is).candidate })
+    (record { kept = past_now h.opening (records h) f frozen; candidate = (ready_at h actors n is).candidate })
 
 pub ready_taken : (h : History) (actors : List Holdings) (n : ℕ) → AreReady h actors → AreReady h (without_candidate actors n)
 ready_taken h actors n is =
@@ -85,8 +61,7 @@ ready_taken h actors n is =
 
 -- a candidate over a graph of the past suits the records
 candidate_of : (opening : Table) (k : List Record) (f : Revision) (c : Rosters) → c.graph ≡ f → IsOfPast opening k f → Suits opening k c
-candidate_of opening k f c same is =
-    let of : IsOfPast opening k c.graph = subst (IsOfPast opening k) (sym same) is in record { past = of.past; graph = of.graph }
+candidate_of opening k f c same is = subst (IsOfPast opening k) (sym same) is
 
 suits_found : (opening : Table) (k : List Record) (o : Option Revision) (before : Holdings) (found : Option ℕ) (after : Holdings) → o ≡ before.kept
     → FindsBy o before found after → SuitsAll opening k before → SuitsAll opening k after

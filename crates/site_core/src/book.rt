@@ -127,7 +127,8 @@ impl<K: Keeper> Book<K> {
     /// history, and where the keeper fails, the history has its fault alone.
     ///
     /// # Errors
-    /// The first that applies: [`Refusal::HistoryFull`], [`Refusal::TextFull`], [`Refusal::NoMemory`]. The history is then as it was.
+    /// The first that applies: [`Refusal::HistoryFull`], [`Refusal::TextFull`], [`Refusal::NoMemory`], which comes only of an act that would add a
+    /// record or a session. The history is then as it was.
     pub fn submit(&mut self, caller: u64, act: Act, moment: u64) -> Answer
         requires { IsMoment moment }
         // The reply is the one that the history gives, and its entry is added.

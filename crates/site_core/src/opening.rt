@@ -47,8 +47,7 @@ impl<K: Keeper> Book<K> {
     /// The book of a site that began with this table, over the rows that the keeper has: its history has their records, and nothing else happened yet.
     /// Nobody is logged in, and nothing is published. Rows of either version are read, and stay as they are.
     ///
-    /// It fetches one row after another, each once, up to the first that it refuses, and copies no text but into its record. Whether a post's author
-    /// might post it isn't asked: that was, when it was kept.
+    /// It fetches one row after another, up to the first that it refuses. Whether a post's author might post it isn't asked: that was, when it was kept.
     ///
     /// # Errors
     /// At the first row that it refuses: [`OpenFault::Full`] of the 4,000,001st row, whatever it is; [`OpenFault::BadRow`] exactly where it is no row of a

@@ -1,5 +1,5 @@
 -- The first changes of records, and frozen graphs of them.
-use Rattle.std.proofs.Common.{◌≡◌, ℕ, zero, suc, ◌≤◌, List, [], ◌∷◌, ◌++◌, length, Option, Some, None, take, refl, sym, ap, ◌∙◌, arith, take_all}
+use Rattle.std.proofs.Common.{◌≡◌, ℕ, zero, suc, ◌≤◌, List, [], ◌∷◌, ◌++◌, length, Option, Some, None, take, refl, sym, ap, subst, ◌∙◌, arith, length-append, take_all}
 use Rattle.std.proofs.lemmas.List.{take-append-le}
 use Rattle.std.proofs.lemmas.List.Elements.{filter_map-append}
 use Rattle.std.specs.List.{cons_option}
@@ -8,7 +8,7 @@ use Rattle.trust_types.specs.Changes.{Change, names, changed_certificates, table
 use Rattle.trust_types.specs.Kept.{changes, change_of, upto, left_after, revision}
 use Rattle.trust_types.specs.Tables.{Table}
 use Rattle.frozen.specs.Revision.{Revision}
-use Rattle.site_history.specs.Legal.{IsFrozenOf}
+use Rattle.site_history.specs.Legal.{IsFrozenOf, IsOfPast}
 
 step : (k : List Record) (r : ℕ) (o : Option Change) → ((n : ℕ) → changes (upto k n) ≡ take n (changes k))
     → cons_option o (changes (upto k (left_after o r))) ≡ take (suc r) (cons_option o (changes k))
@@ -44,3 +44,21 @@ frozen_later opening k l r f past is = frozen_along opening (upto k r) (upto (k 
 pub frozen_now : (opening : Table) (k : List Record) (f : Revision) → IsFrozenOf opening k f → IsFrozenOf opening (upto k (revision k)) f
 frozen_now opening k f is =
     frozen_along opening k (upto k (revision k)) f (sym (changes-upto k (revision k) ∙ take_all (revision k) (changes k) (omega arith))) is
+
+-- the revision doesn't fall, whatever records follow
+revision-later : (k l : List Record) → revision k ≤ revision (k ++ l)
+revision-later k l = omega (arith, ap length (filter_map-append change_of k l), length-append (changes k) (changes l))
+
+-- a graph of the past stays one
+pub past_later : (opening : Table) (k l : List Record) (f : Revision) → IsOfPast opening k f → IsOfPast opening (k ++ l) f
+past_later opening k l f is = record {
+  past = omega (arith, is.past, revision-later k l);
+  graph = frozen_later opening k l f.number f is.past is.graph;
+}
+
+-- a graph of all records is one of their past
+pub past_now : (opening : Table) (k : List Record) (f : Revision) → IsFrozenOf opening k f → IsOfPast opening k f
+past_now opening k f is = record {
+  past = omega (arith, is.number);
+  graph = subst (λ (r : ℕ). IsFrozenOf opening (upto k r) f) (sym is.number) (frozen_now opening k f is);
+}

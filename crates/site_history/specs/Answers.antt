@@ -15,11 +15,17 @@ use Rattle.site_history.specs.Texts.{texts, texts_in}
 use Rattle.site_history.specs.Replies.{judge}
 use Rattle.site_history.specs.Legal.{MOST_PLACES, MOST_TEXTS, MOST_PUBLICATIONS, IsNewer}
 
--- Why an act gets no reply: the first of these that applies. Out of memory may come where neither of the other two applies.
+-- A reply that takes memory: its act adds a record or a session.
+abbrev pub takes_memory : Reply → Bool
+takes_memory (LoggedIn account) = true
+takes_memory reply = is_kept reply
+
+-- Why an act gets no reply: the first of these that applies. Out of memory may come where neither of the other two applies, and the reply would
+-- take memory: an act that is refused is told so with none left.
 abbrev pub Refuses : History → Act → Refusal → Type 0
 Refuses h act HistoryFull = places h ≡ MOST_PLACES
 Refuses h act (TextFull t) = (places h < MOST_PLACES) × (t ≡ texts h) × (MOST_TEXTS < texts h + texts_in act)
-Refuses h act NoMemory = (places h < MOST_PLACES) × (texts h + texts_in act ≤ MOST_TEXTS)
+Refuses h act NoMemory = (places h < MOST_PLACES) × (texts h + texts_in act ≤ MOST_TEXTS) × (takes_memory (judge h act) ≡ true)
 
 -- The reply is the one that the history gives, or a fault of the keeper in place of one that adds a record.
 abbrev pub IsReply : History → Act → Reply → Type 0

@@ -69,10 +69,14 @@ pub record IsLegal (h : History) : Type 0 where
   pub few_texts : texts h ≤ MOST_TEXTS
   pub each : (before : List Entry) (e : Entry) (after : List Entry) → h.entries ≡ before ++ e ∷ after → Meets (record h { entries = before }) e
 
--- A candidate suits the records: its graph is that of the records up to its revision.
-pub record Suits (opening : Table) (k : List Record) (c : Rosters) : Type 0 where
-  pub past : c.graph.number ≤ revision k
-  pub graph : IsFrozenOf opening (upto k c.graph.number) c.graph
+-- A graph of the records' past: that of the records up to its revision. It stays one, whatever records follow.
+pub record IsOfPast (opening : Table) (k : List Record) (f : Revision) : Type 0 where
+  pub past : f.number ≤ revision k
+  pub graph : IsFrozenOf opening (upto k f.number) f
+
+-- A candidate suits the records: its graph is one of their past.
+abbrev pub Suits : Table → List Record → Rosters → Type 0
+Suits opening k c = IsOfPast opening k c.graph
 
 -- What holds a publication stands for it over the records: the number, the revision and the accounts are its own, the graph is that of the
 -- records up to its revision, and the flow and the cut of each grade prove whom its roster has.

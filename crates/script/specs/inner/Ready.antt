@@ -1,18 +1,12 @@
 -- For playing alone: what is known of the actors at all times.
-use Rattle.std.specs.Prelude.{ℕ, ◌≡◌, ◌≤◌, ◌⊎◌, List, Option, Some, None, All, IfSome, length}
+use Rattle.std.specs.Prelude.{ℕ, ◌≡◌, ◌⊎◌, List, Option, Some, None, All, IfSome, length}
 use Rattle.trust_types.specs.declared.records.Record.{Record}
-use Rattle.trust_types.specs.Kept.{revision, upto}
 use Rattle.trust_types.specs.Tables.{Table}
 use Rattle.frozen.specs.Revision.{Revision}
 use Rattle.roster_form.specs.Candidates.{Rosters, AreSound}
 use Rattle.site_history.specs.Histories.{Entry, History, with_entry, records}
-use Rattle.site_history.specs.Legal.{IsFrozenOf, Suits}
+use Rattle.site_history.specs.Legal.{IsOfPast, Suits}
 use Rattle.script.specs.Stages.{Holdings, held_by, with_held}
-
--- A graph of the records up to its revision.
-pub record IsOfPast (opening : Table) (k : List Record) (f : Revision) : Type 0 where
-  pub past : f.number ≤ revision k
-  pub graph : IsFrozenOf opening (upto k f.number) f
 
 -- What an actor has suits the records.
 pub record SuitsAll (opening : Table) (k : List Record) (held : Holdings) : Type 0 where

@@ -2,7 +2,7 @@ use Rattle.std.proofs.Common.{sym, subst, IfSome}
 use Rattle.trust_types.specs.Kept.{revision}
 use Rattle.site_history.specs.Histories.{Freeze, History, records}
 use Rattle.site_cases.specs.Graphs.{IsPastGraph}
-use Rattle.site_cases.proofs.Later.{kept_later, past_now}
+use Rattle.site_cases.proofs.Later.{kept_later, at_once}
 use Rattle.site_cases.proofs.site.Site.graph.Goals as goal
 
 pub invariant_of-self-2 : goal.invariant_of-self-2
@@ -13,4 +13,4 @@ invariant_of-self-2 g c =
 
 pub returns : goal.returns
 returns g c =
-    subst (λ (z : History). IsPastGraph z c.in_ok-freeze.field-0.value) (sym c.in_ok-freeze.ensures.entry) (past_now c.self.inside.book.history 1 c.in_ok-freeze.field-0.value c.in_ok-freeze.ensures.graph)
+    subst (λ (z : History). IsPastGraph z c.in_ok-freeze.field-0.value) (sym c.in_ok-freeze.ensures.entry) (at_once c.self.inside.book.history 1 c.in_ok-freeze.field-0.value c.in_ok-freeze.ensures.graph)
