@@ -6,6 +6,7 @@ use Rattle.std.proofs.lemmas.Bool.{and_parts}
 use Rattle.std.proofs.lemmas.Bool.Decides.{nat_tests}
 use Rattle.markup.specs.Escapes.{escaped, is_plain}
 use Rattle.markup.specs.Cleaning.{cleaned}
+use Rattle.markup.proofs.Safety.{cleaned-safe}
 use Rattle.markup.proofs.Fronts.{escape_of-plain}
 use Rattle.trust_types.specs.declared.levels.Level.{Level}
 use Rattle.trust_types.specs.declared.levels.Level.TheVariants.{Observer, Apprentice, Journeyer, Master, Fellow, Warden, Elder}
@@ -141,18 +142,18 @@ signed_words author moment named = MoreWords (MoreWords (name_words author named
 
 entry_safe : (post : PostView) → IsPost post → AreLines (entry_of post)
 unfolding entry_of entry_lines
-entry_safe post is = MoreLines (Heading (date_of post.moment) (Date post.moment)) (Block (cleaned post.text) is.text)
+entry_safe post is = MoreLines (Heading (date_of post.moment) (Date post.moment)) (Block (cleaned post.text) (cleaned-safe post.text is.text))
 
 written_safe : (post : PostView) → IsPost post → AreLines (written_of post)
 unfolding written_of post_lines paragraph
 written_safe post is =
     let by : IsWords (codes "by " ++ signed post.author post.moment) = MoreWords (plain (codes "by ") refl) (signed_words post.author post.moment is.author) in
-    MoreLines (Paragraph (codes "by " ++ signed post.author post.moment) by) (Block (cleaned post.text) is.text)
+    MoreLines (Paragraph (codes "by " ++ signed post.author post.moment) by) (Block (cleaned post.text) (cleaned-safe post.text is.text))
 
 reply_safe : (post : PostView) → IsPost post → AreLines (reply_of post)
 unfolding reply_of reply_lines
 reply_safe post is =
-    MoreLines (Heading (signed post.author post.moment) (signed_words post.author post.moment is.author)) (Block (cleaned post.text) is.text)
+    MoreLines (Heading (signed post.author post.moment) (signed_words post.author post.moment is.author)) (Block (cleaned post.text) (cleaned-safe post.text is.text))
 
 -- Pages.
 front_safe : (heads : List ArticleHead) → All (λ h. IsName h.author) heads → IsSafePage (front_page (flat_map headline_of heads))

@@ -1,6 +1,6 @@
 -- The grammar of pages: which lines a page may have, and what stands in each. It knows nothing of a site, and no text of a member can add to it.
 use Rattle.std.specs.Prelude.{ℕ, List, [], ◌++◌, All, codes, decimal}
-use Rattle.markup.specs.Cleaning.{cleaned}
+use Rattle.std.specs.Str.{IsUtf8}
 use Rattle.markup.specs.Escapes.{escaped}
 use Rattle.markup.specs.Safe.{IsSafeHtml}
 use Rattle.trust_types.specs.declared.levels.Level.{Level}
@@ -46,10 +46,10 @@ pub data AreLines : List ℕ → Type 0 where
 pub data IsSafePage : List ℕ → Type 0 where
   Page : (title lines : List ℕ) → IsWords title → AreLines lines → IsSafePage (page title lines)
 
--- What the types of a view say: names are names, and a text is cleaned to safe markup.
+-- What the types of a view say: names are names, and texts are UTF-8.
 pub record IsPost (post : PostView) : Type 0 where
   pub author : IsName post.author
-  pub text : IsSafeHtml (cleaned post.text)
+  pub text : IsUtf8 post.text
 
 abbrev pub IsCertName : List ℕ × Level → Type 0
 IsCertName c = IsName c.0

@@ -3,6 +3,6 @@ pub mod Fronts
 mod Tagging
 mod Cleaned
 mod Stepping
-mod Safety
+pub mod Safety
 mod Utf8
 mod Reader
