@@ -3,8 +3,8 @@
 
     bench/scripts.py [CERTIFICATES [ACCOUNTS [RUNS [PROGRAM]]]]
 
-So many accounts join (100,000 where none are named), and then as many lines as are named (2,000,000) certify one account by another at random, at
-Journeyer. The aim is at most 5 times the seconds of `sha256sum` and 2.5 seconds more for each million lines that are accepted, and at most 20 times the size of the script.
+So many accounts join (100,000 where none are named), and then some lines (2,000,000, less one where both accounts are the same) certify one account by
+another at random, at Journeyer. The aim is at most 5 times the seconds of `sha256sum` and 2.5 seconds more for each million lines that are accepted, and at most 20 times the size of the script.
 Python reads the same lines into a dictionary of numbers by name, a dictionary of takers for each giver and a set of givers for each taker, keeps a row for
 each that it accepts, and makes the same lines of output.
 
@@ -21,26 +21,14 @@ import time
 from multiprocessing import get_context
 from pathlib import Path
 
-from measured import measure_in_turn
+from measured import measure_in_turn, random_pairs
 
 TOP = Path(__file__).resolve().parent.parent
 PROGRAM = TOP / "crates" / "virgule" / "out" / "virgule"
 MILLION = 1_000_000
-MASK = 2**64 - 1
 HASHED = 5  # the aim, as a multiple of the seconds of `sha256sum`
 ACCEPTED = 2.5  # and the seconds more for a million accepted lines
 HELD = 20  # and the memory, as a multiple of the script
-
-
-def random_pairs(certificates, accounts):
-    """Pairs of accounts, by Knuth's multiplier; where both are one, the taker is the next."""
-    number = 1
-    for _ in range(certificates):
-        giver = (number >> 33) % accounts
-        number = (number * 6364136223846793005 + 1442695040888963407) & MASK
-        taker = (number >> 33) % accounts
-        number = (number * 6364136223846793005 + 1442695040888963407) & MASK
-        yield giver, taker if giver != taker else (taker + 1) % accounts
 
 
 def write_script(path, certificates, accounts):

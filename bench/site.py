@@ -4,10 +4,10 @@
     bench/site.py [CERTIFICATES [ACCOUNTS [RUNS]]]
 
 The program of the crate `site_cases` answers so many certificates between so many accounts (1,000,000 and 100,000 where none are named), given in random
-order by name: each is judged, its row is written and kept, and then it counts. The processor time of a run that gives none is taken off. Then the rows are
-copied, and another book is opened over the copies. Python keeps a list of rows, a dictionary of numbers by name, a dictionary of takers for each giver and
-a set of givers for each taker; it opens by the reader of forms of its library. SQLite keeps the same rows with one insert each, in a table in memory. The
-aim is at most 2.5 seconds for a million of each.
+order by name: each is judged, its row is written and kept, and then it counts. The processor time of a run that makes the same acts and submits none is
+taken off. Then the rows are copied, and another book is opened over the copies. Python keeps a list of rows, a dictionary of numbers by name, a dictionary
+of takers for each giver and a set of givers for each taker; it opens by the reader of forms of its library. SQLite keeps the same rows with one insert
+each, in a table in memory. The aim is at most 2.5 seconds for a million of each.
 
 At last a graph is frozen before each of 10,000 more certificates, among some 2,000,000. The aim is at most a millisecond.
 
@@ -145,7 +145,7 @@ def main():
     build_cases(CRATE)
     with tempfile.TemporaryDirectory() as folder:
         path = Path(folder) / "steps"
-        empty, _ = by_program(path, accounts, [f"certs 0 n {accounts}"], runs)
+        empty, _ = by_program(path, accounts, [f"drafts {certificates} n {accounts}"], runs)
         full, held = by_program(path, accounts, [f"certs {certificates} n {accounts}"], runs)
         opened, _ = by_program(path, accounts, [f"certs {certificates} n {accounts}", "reopen"], runs)
         print(f"{'a million':<44} {'seconds':>8}")

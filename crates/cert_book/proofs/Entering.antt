@@ -11,8 +11,8 @@ use Rattle.frozen.specs.Sites.{part_at, part_of, names, accounts, is_seed, stand
 use Rattle.frozen.proofs.Numbering.{row_within, part_within}
 use Rattle.frozen.proofs.Readers.{are_full}
 use Rattle.cert_book.specs.declared.slots.Slot.{Slot}
-use Rattle.cert_book.specs.declared.slots.Slot.TheVariants.{Moved}
-use Rattle.cert_book.specs.inner.Slots.{slot_part, slot_parts, slot_at, HasBlock, IsReady}
+use Rattle.cert_book.specs.declared.slots.Slot.TheVariants.{Own, Shared, Moved}
+use Rattle.cert_book.specs.inner.Slots.{slot_part, slot_parts, slot_at, HasBlock, IsOwn, IsReady}
 use Rattle.cert_book.specs.inner.Blocks.{AreSlots, IsAfter}
 use Rattle.cert_book.proofs.Lists.{map-set, all_set}
 use Rattle.cert_book.proofs.Putting.{certs_set, Putting, put_names, put_seeds, put_standing, put_certs, put_parts, count_new}
@@ -29,6 +29,12 @@ has_block slots a c k s is lt read = subst HasBlock (sym read) (is.held k s lt)
 
 pub ready_read : (slots : List Slot) (k : ℕ) (s : Slot) → k < length slots → s ≡ get_or slots k s → IsReady (slot_at slots k) → IsReady s
 ready_read slots k s lt read ready = subst IsReady (get_or_default slots k Moved s lt ∙ sym read) ready
+
+-- a block that can be written is the book's own
+pub own_if_ready : (s : Slot) → IsReady s → IsOwn s
+own_if_ready (Own block) ready = tt
+own_if_ready (Shared block) ready = ready
+own_if_ready Moved ready = ready
 
 -- The premises, as the code has them.
 pub record Entry : Type 0 where

@@ -1,5 +1,5 @@
 -- What the book keeps beside its blocks, once a change was added.
-use Rattle.std.proofs.Common.{ℕ, zero, suc, Bool, true, false, ◌&&◌, ◌==◌, if◌then◌else◌, ◌≡◌, ◌≢◌, ◌≤◌, ◌<◌, ◌+◌, inl, inr, refl, arith, sym, ap, subst, ◌∙◌, List, [], ◌∷◌, ◌++◌, length, All}
+use Rattle.std.proofs.Common.{ℕ, zero, suc, Bool, true, false, ◌&&◌, ◌==◌, if◌then◌else◌, ◌≡◌, ◌≢◌, ◌≤◌, ◌<◌, ◌+◌, inl, inr, refl, arith, sym, ap, subst, ◌∙◌, ◌/◌, List, [], ◌∷◌, ◌++◌, length, All, Option, Some, None, IsSome, IfSome}
 use Rattle.std.proofs.lemmas.Bool.{cases_eq}
 use Rattle.std.proofs.lemmas.Bool.Decides.{nat_tests}
 use Rattle.std.proofs.lemmas.List.{length_push, append-nil}
@@ -13,10 +13,11 @@ use Rattle.trust_types.proofs.Sums.{sum_below-eq}
 use Rattle.name_index.specs.Numbers.{Numbers, AreNumbersOf}
 use Rattle.frozen.specs.Parts.{Part}
 use Rattle.frozen.specs.Sites.{names, accounts, is_seed, standing, AreParts}
-use Rattle.frozen.proofs.Readers.{outside, no_seeds}
+use Rattle.frozen.proofs.Numbering.{part_within}
+use Rattle.frozen.proofs.Readers.{are_full, outside, no_seeds}
 use Rattle.cert_book.specs.inner.Blocks.{IsAfter}
 use Rattle.cert_book.specs.inner.Takings.{Takings, givers_of, has}
-use Rattle.cert_book.specs.inner.Keeping.{AreKept, seeds_before}
+use Rattle.cert_book.specs.inner.Keeping.{AreKept, seeds_before, written}
 use Rattle.cert_book.proofs.Seeding.{one, seeds_added, seeds_removed}
 
 -- Without accounts.
@@ -167,3 +168,14 @@ kept_reserved ps qs index next takings given seeds parts kept numbers long same 
       seeds = kept.seeds;
     } in
     subst (λ (x : List Part). AreKept x next given seeds) (sym parts) here
+
+-- the account whose block is written, where an account is touched
+written_below : (n : ℕ) (author subject : Option ℕ) → IsSome subject → IfSome author (λ a. a < n) → IfSome subject (λ b. b < n) → written n author subject < n
+written_below n (Some a) subject some is about = is
+written_below n None (Some b) some is about = about
+written_below n None None some is about = absurd (cc some)
+
+pub written_inside : (ps : List Part) (author subject : Option ℕ) (account : ℕ) → AreParts ps → IsSome subject → IfSome author (λ a. a < accounts ps) → IfSome subject (λ b. b < accounts ps) →
+    account ≡ written (accounts ps) author subject → account / 64 < length ps
+written_inside ps author subject account are some is about same =
+    part_within ps (are_full ps are) account (subst (λ (n : ℕ). n < accounts ps) (sym same) (written_below (accounts ps) author subject some is about))

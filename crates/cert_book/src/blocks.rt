@@ -94,7 +94,7 @@ impl Blocks {
         self.block(from).standing(from.0 % 64, to)
     }
 
-    /// Makes the block ready that has the account, or that it is to join. It copies the block where that is shared.
+    /// Makes the block ready that has the account, or that it is to join. It copies the block where that is shared, and so none that is ready.
     pub(crate) fn reserve<L: Ledger>(
         &mut self,
         account: u32,
@@ -104,6 +104,7 @@ impl Blocks {
         ensures same { self.new.parts ≡ self.old.parts }
         ensures ready { OnOk result (self.new.ready ≡ Some account) }
         ensures steps { steps.new ≤ steps.old + (65 + certs self.old.parts) }
+        ensures again { self.old.ready ≡ Some account → account / 64 < length self.old.parts → steps.new ≡ steps.old }
     {
         if ((account / 64) as usize) < self.slots.len() {
             self.ready_block(account, steps)
@@ -118,6 +119,7 @@ impl Blocks {
         ensures same { self.new.parts ≡ self.old.parts }
         ensures ready { OnOk result (self.new.ready ≡ Some account) }
         ensures steps { steps.new ≤ steps.old + (65 + certs self.old.parts) }
+        ensures again { self.old.ready ≡ Some account → steps.new ≡ steps.old }
     {
         self.ready = None;
         ready_slot(

@@ -396,7 +396,9 @@ impl CertBook {
         ensures room { OnOk result (self.new.room ≡ Some (record { author = author; subject = subject })) }
         ensures none { OnErr result (self.new.room ≡ None) }
         ensures same { self.new.revision ≡ self.old.revision }
+        // A block that can be written already is copied no more.
         ensures steps { steps.new ≤ steps.old + (65 + (book self.old).certs) }
+        ensures again { IsSome subject → self.old.room ≡ Some (record { author = author; subject = subject }) → steps.new ≡ steps.old }
     {
         self.room = None;
         reserve_beside(&author, &subject, &mut self.numbers, &mut self.takings)?;

@@ -4,7 +4,7 @@ ghost use Rattle.std.specs.Prelude.{◌≡◌, ◌≤◌, ◌<◌, ◌+◌, All,
 ghost use Rattle.frozen.specs.Parts.{count, degree_in, giver_in, IsPart};
 ghost use Rattle.frozen.specs.Sites.{shared_parts};
 ghost use Rattle.frozen.specs.Writes.{row_of, with_account, with_seed, IsPut};
-ghost use Rattle.cert_book.specs.inner.Slots.{slot_part, slot_parts, HasBlock, IsReady};
+ghost use Rattle.cert_book.specs.inner.Slots.{slot_part, slot_parts, HasBlock, IsOwn, IsReady};
 
 use frozen::Block;
 use std::alloc::Global;
@@ -85,7 +85,8 @@ pub(crate) fn share_all<L: Ledger>(
     Ok(blocks)
 }
 
-/// Makes the block ready to be written: it becomes a copy of its own if it is shared, and gets room for one account and one certificate.
+/// Makes the block ready to be written: it becomes a copy of its own if it is shared, and gets room for one account and one certificate. It copies
+/// none that is the book's own.
 pub(crate) fn ready_slot<L: Ledger>(
     slot: &mut Slot,
     row: u32,
@@ -97,6 +98,7 @@ pub(crate) fn ready_slot<L: Ledger>(
     ensures held { HasBlock slot.new }
     ensures ready { OnOk result (IsReady slot.new) }
     ensures steps { steps.new ≤ steps.old + (1 + count (slot_part slot.old) + length (slot_part slot.old).takers) }
+    ensures own { IsOwn slot.old → steps.new ≡ steps.old }
 {
     if let Slot::Shared(block) = slot {
         let own = block.copy(steps)?;

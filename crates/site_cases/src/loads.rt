@@ -79,16 +79,35 @@ fn name_by(alloc: Global, names: &[Text], random: u64) -> Result<Text, NoMemory>
     }
 }
 
-/// One of the accounts certifies another.
-fn certify(site: &mut Site, giver: Text, taker: Text) -> Option<Answer> {
-    let act = Act::of(
+/// The act by which one of the accounts certifies another.
+fn cert_act(giver: Text, taker: Text) -> Option<Act> {
+    Act::of(
         Some(Author::Named(giver)),
         Command::Cert {
             subject: taker,
             level: Level::Journeyer,
         },
-    )?;
-    Some(site.submit(act))
+    )
+}
+
+/// One of the accounts certifies another.
+fn certify(site: &mut Site, giver: Text, taker: Text) -> Option<Answer> {
+    Some(site.submit(cert_act(giver, taker)?))
+}
+
+/// The acts of so many certificates at random are made, and none is submitted. Gives how many there were.
+fn draft_many(alloc: Global, count: u32, names: &[Text]) -> Result<u32, NoMemory> {
+    let mut drafts: u32 = 0;
+    let mut giver: u64 = 1;
+    for _ in 0..count {
+        let taker = next(giver);
+        let act = cert_act(name_by(alloc, names, giver)?, name_by(alloc, names, taker)?);
+        if act.is_some() {
+            drafts = drafts.saturating_add(1);
+        }
+        giver = next(taker);
+    }
+    Ok(drafts)
 }
 
 /// So many certificates are given at random. Gives how many of them were replied to.
@@ -153,6 +172,10 @@ pub(crate) fn load<L: Ledger>(
         Load::Crowd(count, letters) => crowd(alloc, site, count, letters)?,
         Load::Certs(count, letters, accounts) => {
             certify_many(alloc, site, count, &names_of(alloc, letters, accounts)?)?
+        }
+        Load::Drafts(count, letters, accounts) => {
+            let drafts = draft_many(alloc, count, &names_of(alloc, letters, accounts)?)?;
+            return Ok(format!(in alloc; "{drafts} drafts")?);
         }
         Load::Freezes(count, letters, accounts) => {
             freeze_many(

@@ -3,7 +3,8 @@
 //! - `times N ACT`: the same act so many times; the last answer is shown;
 //! - `crowd N LETTERS`: so many accounts join, named by these letters and a number each;
 //! - `certs N LETTERS ACCOUNTS`: so many certificates are given at random between the first accounts of such names;
-//! - `freezes N LETTERS ACCOUNTS`: the same, and the graph is frozen before each;
+//! - `drafts N LETTERS ACCOUNTS`: the same acts are made, and none is submitted;
+//! - `freezes N LETTERS ACCOUNTS`: so many certificates, and the graph is frozen before each;
 //! - `freeze`: the graph is frozen, and kept;
 //! - `publish`: the rosters of the graph that is kept are published;
 //! - `publish now`: the graph is frozen and its rosters are published, while the graph that is kept stays;
@@ -20,6 +21,7 @@ pub(crate) enum Load<'a> {
     Times(u32, &'a str),
     Crowd(u32, &'a str),
     Certs(u32, &'a str, u32),
+    Drafts(u32, &'a str, u32),
     Freezes(u32, &'a str, u32),
 }
 
@@ -69,6 +71,10 @@ fn load_in<'a>(verb: &'a str, words: &'a str) -> Option<Load<'a>> {
     if verb == "certs" {
         let (count, letters, accounts) = three_words(words)?;
         return Some(Load::Certs(count, letters, accounts));
+    }
+    if verb == "drafts" {
+        let (count, letters, accounts) = three_words(words)?;
+        return Some(Load::Drafts(count, letters, accounts));
     }
     if verb == "freezes" {
         let (count, letters, accounts) = three_words(words)?;

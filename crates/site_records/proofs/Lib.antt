@@ -8,3 +8,4 @@ pub mod Plain
 pub mod Tabled
 pub mod Recorded
 pub mod Whole
+pub mod Written

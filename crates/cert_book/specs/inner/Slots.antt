@@ -21,6 +21,12 @@ HasBlock (Own block) = Unit {0}
 HasBlock (Shared block) = Unit {0}
 HasBlock Moved = ⊥
 
+-- It is the book's own.
+abbrev pub IsOwn : Slot → Type 0
+IsOwn (Own block) = Unit {0}
+IsOwn (Shared block) = ⊥
+IsOwn Moved = ⊥
+
 -- Its block can be written, and has room for one account and one certificate.
 abbrev pub IsReady : Slot → Type 0
 IsReady (Own block) = block.has_room ≡ true

@@ -2,7 +2,7 @@ use Rattle.std.proofs.Common.{◌<◌, ◌/◌, arith, length}
 use Rattle.std.proofs.lemmas.List.{length-map, length-set}
 use Rattle.cert_book.specs.inner.Slots.{slot_part}
 use Rattle.cert_book.proofs.Lists.{map-set_same}
-use Rattle.cert_book.proofs.Entering.{copy_le}
+use Rattle.cert_book.proofs.Entering.{copy_le, own_if_ready, ready_read}
 use Rattle.cert_book.proofs.Marking.{ready_book, ready_set}
 use Rattle.cert_book.proofs.blocks.Blocks.ready_block.Goals as goal
 
@@ -43,3 +43,19 @@ returns-clause-steps g c =
     let below = rw (← c.self.view_is) at c.requires in
     let lt : c.args.account / 64 < length c.self.inside.slots.items = omega (arith, below, length-map c.self.inside.slots.items slot_part) in
     rw (← c.self.view_is) (omega (arith, c.ready_slot.ensures.steps, copy_le _ _ _ _ c.index_mut.result.now c.self.invariant.0 lt c.index_mut.ensures.value))
+
+pub returns-in_err-ready_slot-clause-again : goal.returns-in_err-ready_slot-clause-again
+returns-in_err-ready_slot-clause-again g c = λ ready.
+    let below = rw (← c.self.view_is) at c.requires in
+    let lt : c.args.account / 64 < length c.self.inside.slots.items = omega (arith, below, length-map c.self.inside.slots.items slot_part) in
+    let is = rw (← c.self.view_is) at ready in
+    let held = rw is at c.self.invariant.1 in
+    c.ready_slot.ensures.own (own_if_ready _ (ready_read _ _ _ lt c.index_mut.ensures.value (held.0 lt)))
+
+pub returns-clause-again : goal.returns-clause-again
+returns-clause-again g c = λ ready.
+    let below = rw (← c.self.view_is) at c.requires in
+    let lt : c.args.account / 64 < length c.self.inside.slots.items = omega (arith, below, length-map c.self.inside.slots.items slot_part) in
+    let is = rw (← c.self.view_is) at ready in
+    let held = rw is at c.self.invariant.1 in
+    c.ready_slot.ensures.own (own_if_ready _ (ready_read _ _ _ lt c.index_mut.ensures.value (held.0 lt)))
