@@ -1,6 +1,6 @@
 //! What a reader holds of a site.
 
-ghost use Rattle.std.specs.Prelude.{◌≡◌, ◌≢◌, IfOk, IfErr, OnErr, MatchOption, None, Some, length, []};
+ghost use Rattle.std.specs.Prelude.{◌≡◌, ◌≢◌, IfOk, IfErr, OnErr, MatchOption, None, OnOk, Some, length, []};
 ghost use Rattle.site_history.specs.Histories.{publications};
 ghost use Rattle.turn_book.specs.Seats.{Looks};
 ghost use Rattle.roster_cell.specs.Caches.{IsCached, IsLatest, number_of};
@@ -78,7 +78,9 @@ pub fn latest<'c, K: Keeper>(
     requires site { seat.old.site ≡ site.now.table.shared.table_id }
     requires cached { IsCached seat.old.seen cache.now }
     ensures looks { Looks seat.old seat.new }
+    ensures cached { IsCached seat.new.seen cache.now }
     ensures latest { IfOk result (λ found. MatchOption found (publications seat.new.seen ≡ []) (λ q. IsLatest seat.new.seen q.now)) }
+    ensures current { OnOk result (number_of cache.now ≡ length (publications seat.new.seen)) }
     ensures moved { IfErr result (λ moved. (moved.held ≡ number_of cache.now) × (moved.shown ≡ length (publications seat.new.seen)) × (moved.held ≢ moved.shown)) }
 {
     // Its contract says that what the seat has seen is legal.

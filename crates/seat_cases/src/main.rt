@@ -1,6 +1,7 @@
 //! Shows what seats at one site see of one another. The input has scenes, a step a line, each scene ended by an empty line. Its first line says what it is
 //! about, and under each step comes the answer. A scene has a site of its own, with the table `3 2 1`, and two seats: `1`, which the site was opened with, and
-//! `2`, which was split off it. Each step of seat 2 is taken in another thread. A step is one of these:
+//! `2`, which was split off it. A step of seat 2 is taken while another thread runs, which does
+//! nothing. A step is one of these:
 //!
 //! - `N: NAME joins`, `N: NAME is a seed`, `N: NAME certifies NAME LEVEL`, `N: NAME writes TEXT`, which that seat submits;
 //! - `N: publish`: that seat freezes the site, solves the graph and publishes the rosters;

@@ -43,7 +43,7 @@ impl Scene {
         }
     }
 
-    /// Takes a step: one of seat 1 here, one of seat 2 in another thread.
+    /// Takes a step: one of seat 1 alone, one of seat 2 beside another thread.
     fn take<R: Threads + Wait + Sync>(
         self,
         rt: &R,

@@ -1,5 +1,5 @@
 -- What a seat knows between its calls, and what a call does to it.
-use Rattle.std.proofs.Common.{◌≡◌, ◌≢◌, ℕ, ◌+◌, ◌<◌, ◌≤◌, false, List, [], ◌∷◌, ◌++◌, length, Result, Ok, Err, IfOk, OnErr, refl, sym, ap, ◌∙◌, subst, arith, length-append}
+use Rattle.std.proofs.Common.{◌≡◌, ℕ, ◌+◌, false, List, [], ◌∷◌, ◌++◌, length, Result, Ok, Err, IfOk, OnErr, refl, sym, ap, ◌∙◌, subst, arith}
 use Rattle.atomic_table.specs.Seated.{TableId}
 use Rattle.site_history.specs.declared.acts.Act.{Act}
 use Rattle.site_history.specs.declared.replies.Reply.{Reply}
@@ -9,7 +9,7 @@ use Rattle.site_history.specs.Histories.{Entry, History, places, with_entry}
 use Rattle.site_history.specs.Legal.{IsLegal}
 use Rattle.site_history.proofs.Growing.{places-add}
 use Rattle.turn_book.specs.Seats.{Seated, Adds, Looks, StartsWith, caller_of, made_by}
-use Rattle.turn_book.specs.inner.Known.{Known, knows, Unborne, Later, IsIdle}
+use Rattle.turn_book.specs.inner.Known.{Known, knows, Later, IsIdle}
 use Rattle.turn_book.specs.inner.Turns.{newcomer}
 use Rattle.turn_book.proofs.Keeps.{starts_more}
 use Rattle.turn_book.proofs.Places.{made-opened, made-own, made-other}
@@ -70,14 +70,20 @@ adds_mine : (v : Known) (h next : History) (e : Entry) → Later v h → next �
 adds_mine v h next e l grows by = ap (made_by v.base v.low) grows ∙ (made-own v.base v.low h e l.grown by ∙ ap (λ (ps : List ℕ). ps ++ places h ∷ []) l.mine)
 
 module _ {C : Type 0} where
-  -- a seat's numbers are those that it knows, it holds nothing, and is between its calls
-  abbrev pub IsAtRest : ℕ → ℕ → Known × List C → Type 0
-  IsAtRest low high m = (low ≡ m.0.low) × (high ≡ m.0.high) × (m.1 ≡ []) × IsIdle m.0
+  -- a seat's numbers are those that it knows, it holds nothing, is between its calls, and has the length of what it has seen
+  abbrev pub IsAtRest : ℕ → ℕ → ℕ → Known × List C → Type 0
+  IsAtRest low high entries m = (low ≡ m.0.low) × (high ≡ m.0.high) × (m.1 ≡ []) × IsIdle m.0 × (entries ≡ places m.0.seen)
 
   -- the seat after a call that added an entry
-  pub adds_rest : (low high : ℕ) (m : Known × List C) (v : Known) (h next : History) (e : Entry) → m ≡ (knows next v.base v.low v.high false, []) → low ≡ v.low → high ≡ v.high → IsIdle v
-      → Later v h → next ≡ with_entry h e → caller_of e ≡ v.low → IsLegal next → IsAtRest low high m
-  adds_rest low high m v h next e is low_is high_is idle l grows by legal = subst (IsAtRest low high) (sym is) (low_is, high_is, refl, adds_idle v h next e idle l grows by legal)
+  pub adds_rest : (low high entries : ℕ) (m : Known × List C) (v : Known) (h next : History) (e : Entry) → m ≡ (knows next v.base v.low v.high false, []) → low ≡ v.low → high ≡ v.high → IsIdle v
+      → Later v h → next ≡ with_entry h e → caller_of e ≡ v.low → IsLegal next → entries ≡ places next → IsAtRest low high entries m
+  adds_rest low high entries m v h next e is low_is high_is idle l grows by legal long =
+      subst (IsAtRest low high entries) (sym is) (low_is, high_is, refl, adds_idle v h next e idle l grows by legal, long)
+
+  -- the seat after a call that only looked
+  pub looks_rest : (low high entries : ℕ) (m : Known × List C) (v : Known) (h : History) → m ≡ (knows h v.base v.low v.high false, []) → low ≡ v.low → high ≡ v.high → IsIdle v → Later v h → entries ≡ places h
+      → IsAtRest low high entries m
+  looks_rest low high entries m v h is low_is high_is idle l long = subst (IsAtRest low high entries) (sym is) (low_is, high_is, refl, looks_idle v h idle l, long)
 
   pub adds_seat : (site site' : TableId) (id id' low high : ℕ) (m : Known × List C) (v : Known) (h next : History) (e : Entry) → site' ≡ site → id' ≡ id → m ≡ (knows next v.base v.low v.high false, []) → low ≡ v.low
       → Later v h → next ≡ with_entry h e → caller_of e ≡ v.low → IsLegal next

@@ -1,16 +1,15 @@
 -- A candidate that suits the records of a history suits those of each history that begins with it.
-use Rattle.std.proofs.Common.{◌≡◌, ℕ, ◌+◌, ◌≤◌, List, [], ◌∷◌, ◌++◌, length, refl, sym, ap, ◌∙◌, subst, arith, length-append, append_assoc, option_to_list, fold}
+use Rattle.std.proofs.Common.{◌≡◌, ℕ, ◌+◌, List, [], ◌∷◌, ◌++◌, refl, sym, ap, ◌∙◌, subst, append_assoc, option_to_list, fold}
 use Rattle.std.proofs.lemmas.List.{append-nil}
-use Rattle.std.proofs.lemmas.List.Elements.{filter_map-append}
 use Rattle.trust_types.specs.declared.records.Record.{Record}
-use Rattle.trust_types.specs.Kept.{change_of, changes, revision, upto}
+use Rattle.trust_types.specs.Kept.{revision}
 use Rattle.trust_types.specs.Tables.{Table}
 use Rattle.frozen.specs.Revision.{Revision}
 use Rattle.roster_form.specs.Candidates.{Rosters}
 use Rattle.site_history.specs.Histories.{Entry, Freeze, History, records, records_after, record_added, with_entry}
 use Rattle.site_history.specs.Legal.{IsFrozenOf, Suits}
 use Rattle.site_history.proofs.Growing.{records-same}
-use Rattle.site_history.proofs.Revisions.{frozen_later, frozen_now}
+use Rattle.site_history.proofs.Revisions.{past_later, past_now}
 use Rattle.turn_book.specs.Seats.{StartsWith}
 
 fold-append : {A B : Type 0} (f : B → A → B) (b : B) (xs ys : List A) → fold f b (xs ++ ys) ≡ fold f (fold f b xs) ys
@@ -34,16 +33,8 @@ records-start h g s = ap records s.1 ∙ (fold-append records_after g.opened g.e
 pub records_later : (h g : History) → StartsWith h g → (l : List Record) × (records h ≡ records g ++ l)
 records_later h g s = (more (records g) s.0, records-start h g s)
 
-suits_more : (opening : Table) (k l : List Record) (c : Rosters) → Suits opening k c → Suits opening (k ++ l) c
-suits_more opening k l c is =
-    let past = is.past in
-    record {
-      past = omega (arith, ap length (filter_map-append change_of k l), length-append (changes k) (changes l));
-      graph = frozen_later opening k l c.graph.number c.graph past is.graph;
-    }
-
 pub suits_later : (h g : History) (c : Rosters) → StartsWith h g → Suits g.opening (records g) c → Suits h.opening (records h) c
-suits_later h g c s is = subst (λ (z : Table × List Record). Suits z.0 z.1 c) (λ i. (sym (ap (λ (h : History). h.opening) s.1) i, sym (records-start h g s) i)) (suits_more g.opening (records g) (more (records g) s.0) c is)
+suits_later h g c s is = subst (λ (z : Table × List Record). Suits z.0 z.1 c) (λ i. (sym (ap (λ (h : History). h.opening) s.1) i, sym (records-start h g s) i)) (past_later g.opening (records g) (more (records g) s.0) c.graph is)
 
 -- A candidate over a graph that was just frozen suits what the seat has seen then.
 pub frozen_suits : (before now : History) (caller : ℕ) (f : Revision) (c : Rosters) → IsFrozenOf before.opening (records before) f → now ≡ with_entry before (Freeze caller (revision (records before)))
@@ -51,8 +42,5 @@ pub frozen_suits : (before now : History) (caller : ℕ) (f : Revision) (c : Ros
 frozen_suits before now caller f c frozen added same =
     let stay : records (with_entry before (Freeze caller (revision (records before)))) ≡ records before = records-same before (Freeze caller (revision (records before))) refl in
     let of : IsFrozenOf before.opening (records before) c.graph = subst (IsFrozenOf before.opening (records before)) (sym same) frozen in
-    let suits : Suits before.opening (records before) c = record {
-      past = omega (arith, of.number);
-      graph = subst (λ (r : ℕ). IsFrozenOf before.opening (upto (records before) r) c.graph) (sym of.number) (frozen_now before.opening (records before) c.graph of);
-    } in
+    let suits : Suits before.opening (records before) c = past_now before.opening (records before) c.graph of in
     subst (λ (h : History). Suits h.opening (records h) c) (sym added) (subst (λ (k : List Record). Suits before.opening k c) (sym stay) suits)

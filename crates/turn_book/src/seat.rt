@@ -17,11 +17,13 @@ pub(crate) type Token<K> = atomic_table::Seat<Option<Book<K>>, Knowledge>;
 pub struct Seat<K: Keeper> {
     pub(crate) low: u64,
     pub(crate) high: u64,
+    pub(crate) entries: u64,
     pub(crate) token: Token<K>,
 }
 
 impl<K: Keeper> Model for Seat<K> {
     ghost use Rattle.std.specs.Prelude.{◌≡◌, []};
+    ghost use Rattle.site_history.specs.Histories.{places};
     ghost use Rattle.turn_book.specs.inner.Known.{IsIdle};
     ghost use Rattle.turn_book.specs.Seats.{Seated};
 
@@ -29,7 +31,7 @@ impl<K: Keeper> Model for Seat<K> {
 
     ghost view = { λ s. record { site = s.token.table_id; id = s.token.id; seen = s.token.me.0.seen; base = s.token.me.0.base; low = s.low; high = s.high } };
 
-    ghost invariant = { λ s. (s.low ≡ s.token.me.0.low) × (s.high ≡ s.token.me.0.high) × (s.token.me.1 ≡ []) × IsIdle s.token.me.0 };
+    ghost invariant = { λ s. (s.low ≡ s.token.me.0.low) × (s.high ≡ s.token.me.0.high) × (s.token.me.1 ≡ []) × IsIdle s.token.me.0 × (s.entries ≡ places s.token.me.0.seen) };
 }
 
 impl<K: Keeper> Seat<K> {
@@ -41,5 +43,12 @@ impl<K: Keeper> Seat<K> {
         ensures grown { self.now.base ≤ places self.now.seen }
     {
         self.low
+    }
+
+    /// How many places the history has that the seat has seen: opened records and entries. The seat remembers it, and looks at nothing.
+    pub fn length(&self) -> u64
+        ensures { result ≡ places self.now.seen }
+    {
+        self.entries
     }
 }

@@ -79,6 +79,7 @@ impl<K: Keeper> Site<K> {
                 Seat {
                     low: 0,
                     high: 1 << 63,
+                    entries,
                     token,
                 },
             )),
@@ -107,6 +108,7 @@ impl<K: Keeper> Site<K> {
         Ok(Seat {
             low: middle,
             high,
+            entries: seat.entries,
             token,
         })
     }
@@ -119,8 +121,9 @@ impl<K: Keeper> Site<K> {
         ensures looks { Looks seat.old seat.new }
     {
         let word = self.table.shared.load::<Look>(&mut seat.token, 0);
+        seat.entries = word / 1_048_576;
         Front {
-            entries: word / 1_048_576,
+            entries: seat.entries,
             publications: (word % 1_048_576) as u32,
         }
     }
@@ -144,33 +147,39 @@ impl<K: Keeper> Site<K> {
         unreachable!()
     }
 
-    /// Puts a book back to which nothing was added, and ends the turn.
-    fn give(&self, token: &mut Token<K>, book: Book<K>)
+    /// Puts a book back to which nothing was added, and ends the turn. It answers how many places the history has.
+    fn give(&self, token: &mut Token<K>, book: Book<K>) -> u64
         requires site { token.old.table_id ≡ self.now.table.shared.table_id }
         requires turn { (token.old.me.1 ≡ (0, None) ∷ []) × (token.old.me.0.turn ≡ true) × (token.old.me.0.seen ≡ book.history) }
         requires sound { IsSound K.rows K.faults book }
         ensures site { (token.new.table_id ≡ token.old.table_id) × (token.new.id ≡ token.old.id) }
         ensures idle { token.new.me ≡ (turning token.old.me.0 false, []) }
+        ensures entries { result ≡ places book.history }
     {
+        let entries = book.length();
         let shared = &self.table.shared;
         shared.exchange(token, 0, Some(book));
         shared.store::<Release>(token, 1, 0);
+        entries
     }
 
-    /// Puts a book back to which one entry was added, stores its front, and ends the turn.
-    fn show(&self, token: &mut Token<K>, book: Book<K>)
+    /// Puts a book back to which one entry was added, stores its front, and ends the turn. It answers how many places the history has.
+    fn show(&self, token: &mut Token<K>, book: Book<K>) -> u64
         requires site { token.old.table_id ≡ self.now.table.shared.table_id }
         requires turn { (token.old.me.1 ≡ (0, None) ∷ []) × (token.old.me.0.turn ≡ true) }
         requires entry { (e : Entry) × (book.history ≡ with_entry token.old.me.0.seen e) × (caller_of e ≡ token.old.me.0.low) }
         ensures site { (token.new.table_id ≡ token.old.table_id) × (token.new.id ≡ token.old.id) }
         ensures idle { token.new.me ≡ (turning (seeing token.old.me.0 book.history) false, []) }
         ensures legal { IsLegal book.history }
+        ensures entries { result ≡ places book.history }
     {
-        let front = book.length() * 1_048_576 + u64::from(book.published());
+        let entries = book.length();
+        let front = entries * 1_048_576 + u64::from(book.published());
         let shared = &self.table.shared;
         shared.exchange(token, 0, Some(book));
         shared.store::<Store>(token, 0, front);
         shared.store::<Release>(token, 1, 0);
+        entries
     }
 
     /// Answers an act of the seat at a moment, as [`Book::submit`] does, after a history that begins with what the seat has seen. It waits for the turn.
@@ -188,11 +197,13 @@ impl<K: Keeper> Site<K> {
         let mut book = self.take(rt, &mut seat.token, low);
         match book.submit(low, act, moment) {
             Ok(reply) => {
-                self.show(&mut seat.token, book);
+                let entries = self.show(&mut seat.token, book);
+                seat.entries = entries;
                 Ok(reply)
             }
             Err(refusal) => {
-                self.give(&mut seat.token, book);
+                let entries = self.give(&mut seat.token, book);
+                seat.entries = entries;
                 Err(refusal)
             }
         }
@@ -231,11 +242,13 @@ impl<K: Keeper> Site<K> {
         let mut book = self.take(rt, &mut seat.token, low);
         match book.freeze(low, &mut steps) {
             Ok(graph) => {
-                self.show(&mut seat.token, book);
+                let entries = self.show(&mut seat.token, book);
+                seat.entries = entries;
                 Ok(graph)
             }
             Err(fault) => {
-                self.give(&mut seat.token, book);
+                let entries = self.give(&mut seat.token, book);
+                seat.entries = entries;
                 Err(fault)
             }
         }
@@ -262,11 +275,13 @@ impl<K: Keeper> Site<K> {
         let mut book = self.take(rt, &mut seat.token, low);
         match book.publish(low, candidate) {
             Ok(number) => {
-                self.show(&mut seat.token, book);
+                let entries = self.show(&mut seat.token, book);
+                seat.entries = entries;
                 Ok(number)
             }
             Err(fault) => {
-                self.give(&mut seat.token, book);
+                let entries = self.give(&mut seat.token, book);
+                seat.entries = entries;
                 Err(fault)
             }
         }
@@ -284,7 +299,8 @@ impl<K: Keeper> Site<K> {
         let low = seat.low;
         let book = self.take(rt, &mut seat.token, low);
         let view = book.view(query);
-        self.give(&mut seat.token, book);
+        let entries = self.give(&mut seat.token, book);
+        seat.entries = entries;
         view
     }
 
@@ -305,7 +321,8 @@ impl<K: Keeper> Site<K> {
         let low = seat.low;
         let book = self.take(rt, &mut seat.token, low);
         let found = last_of(&book);
-        self.give(&mut seat.token, book);
+        let entries = self.give(&mut seat.token, book);
+        seat.entries = entries;
         found
     }
 
@@ -322,6 +339,7 @@ impl<K: Keeper> Site<K> {
         let Seat {
             low: _,
             high: _,
+            entries: _,
             token,
         } = seat;
         let mut closed = table.close_with(token);

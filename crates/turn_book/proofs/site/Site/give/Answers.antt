@@ -1,4 +1,4 @@
-use Rattle.std.proofs.Common.{rules, ◌≡◌, ◌∷◌, [], ◌∙◌, sym, ap, Some}
+use Rattle.std.proofs.Common.{rules, ◌≡◌, ◌∷◌, [], ◌∙◌, ap, Some}
 use Rattle.atomic_table.specs.Table.{rest}
 use Rattle.turn_book.proofs.Keeps.{releasing}
 use Rattle.turn_book.proofs.site.Site.give.Goals as goal

@@ -10,3 +10,8 @@ pub returns-clause-shows : goal.returns-clause-shows
 returns-clause-shows g c =
     let found = c.load-word.ensures.2 in
     parts_of_front _ _ _ found.1.legal found.2 (ap (λ m. m.0.seen) found.3)
+
+pub invariant_of-seat : goal.invariant_of-seat
+invariant_of-seat g c =
+    let found = c.load-word.ensures.2 in
+    (search rules, search rules, search rules, search rules, (parts_of_front _ _ _ found.1.legal found.2 (ap (λ m. m.0.seen) found.3)).0)

@@ -1,9 +1,9 @@
-use Rattle.std.proofs.Common.{rules, ◌≡◌, ◌∙◌, sym, ap, subst, List, [], ◌∷◌, ◌++◌, ◌+◌, ◌*◌, refl, Option, Some, arith, ℕ}
+use Rattle.std.proofs.Common.{◌≡◌, ◌∙◌, sym, ap, subst, List, [], ◌∷◌, ◌++◌, ◌+◌, ◌*◌, refl, Option, Some, arith}
 use Rattle.atomic_table.specs.Table.{opening}
 use Rattle.site_core.specs.Books.{Kept, IsSound}
 use Rattle.site_history.specs.Histories.{places}
 use Rattle.turn_book.specs.Seats.{made_by}
-use Rattle.turn_book.specs.inner.Known.{front, IsIdle}
+use Rattle.turn_book.specs.inner.Known.{front}
 use Rattle.turn_book.specs.inner.Turns.{Keeps, newcomer, Sat}
 use Rattle.turn_book.proofs.Places.{made-opened}
 use Rattle.turn_book.proofs.Seats.{IsAtRest, newcomer_idle}
@@ -27,7 +27,8 @@ invariant_of-result g c =
     let faults = g.K.Keeper.faults in
     let sound = subst (IsSound rows faults) (sym c.of-opened.ensures) c.length-entries.ensures.sound in
     let key = c.of-opened.result.value in
-    subst (IsAtRest 0 9223372036854775808) (sym c.in-Ok.ensures.ok.4) (refl, refl, refl, newcomer_idle key.history sound.legal)
+    subst (IsAtRest 0 9223372036854775808 c.length-entries.result) (sym c.in-Ok.ensures.ok.4)
+    (refl, refl, refl, newcomer_idle key.history sound.legal, c.length-entries.ensures.value ∙ ap (λ b. places b.history) (sym c.of-opened.ensures))
 
 pub returns-in-Ok : goal.returns-in-Ok
 returns-in-Ok g c =

@@ -1,4 +1,4 @@
-use Rattle.std.proofs.Common.{rules, ◌≡◌, ◌+◌, [], length, ap, sym, refl, subst, ◌∙◌, false}
+use Rattle.std.proofs.Common.{◌≡◌, [], ap, sym, refl, subst, ◌∙◌, false}
 use Rattle.site_history.specs.Histories.{Entry, Publish, published_of, with_entry}
 use Rattle.turn_book.specs.inner.Known.{seeing, turning, knows}
 use Rattle.turn_book.specs.inner.Turns.{Sat}
@@ -10,8 +10,8 @@ use Rattle.turn_book.proofs.site.Site.publish.Goals as goal
 pub publish-requires : goal.publish-requires
 publish-requires g c = suits_later c.take-book.result.history c.args.seat.now.seen c.args.candidate (subst (λ (s : Seated). StartsWith c.take-book.result.history s.seen) c.seat.view_is c.take-book.ensures.later.begins) c.requires.candidate
 
-pub show-requires-clause-entry : goal.show-requires-clause-entry
-show-requires-clause-entry g c =
+pub show-entries-requires-clause-entry : goal.show-entries-requires-clause-entry
+show-entries-requires-clause-entry g c =
     let e : Entry = Publish c.seat.inside.low (published_of c.in-Ok.number c.args.candidate) in
     let turn = c.take-book.ensures.turn in
     (e, c.in-Ok.ensures.entry ∙ ap (λ (m : Sat g.K.Keeper.rows g.K.Keeper.faults). with_entry m.0.seen e) (sym turn), refl ∙ (c.seat.invariant.0 ∙ ap (λ (m : Sat g.K.Keeper.rows g.K.Keeper.faults). m.0.low) (sym turn)))
@@ -21,20 +21,20 @@ invariant_of-seat g c =
     let inv = c.seat.invariant in
     let v = c.seat.inside.token.me.0 in
     let next = c.publish.new.self.history in
-    let is : c.show.new.token.me ≡ (knows next v.base v.low v.high false, []) = c.show.ensures.idle ∙ ap (λ (m : Sat g.K.Keeper.rows g.K.Keeper.faults). (turning (seeing m.0 next) false, [])) c.take-book.ensures.turn in
-    adds_rest _ _ _ v c.take-book.result.history next (Publish c.seat.inside.low (published_of c.in-Ok.number c.args.candidate)) is inv.0 inv.1 inv.3 c.take-book.ensures.later c.in-Ok.ensures.entry inv.0 c.show.ensures.legal
+    let is : c.show-entries.new.token.me ≡ (knows next v.base v.low v.high false, []) = c.show-entries.ensures.idle ∙ ap (λ (m : Sat g.K.Keeper.rows g.K.Keeper.faults). (turning (seeing m.0 next) false, [])) c.take-book.ensures.turn in
+    adds_rest _ _ _ _ v c.take-book.result.history next (Publish c.seat.inside.low (published_of c.in-Ok.number c.args.candidate)) is inv.0 inv.1 inv.3 c.take-book.ensures.later c.in-Ok.ensures.entry inv.0 c.show-entries.ensures.legal c.show-entries.ensures.entries
 
 pub returns-in-Ok-clause-number : goal.returns-in-Ok-clause-number
 returns-in-Ok-clause-number g c =
     let inv = c.seat.invariant in
     let v = c.seat.inside.token.me.0 in
     let next = c.publish.new.self.history in
-    let is : c.show.new.token.me ≡ (knows next v.base v.low v.high false, []) = c.show.ensures.idle ∙ ap (λ (m : Sat g.K.Keeper.rows g.K.Keeper.faults). (turning (seeing m.0 next) false, [])) c.take-book.ensures.turn in
-    let t = c.show.new.token in
+    let is : c.show-entries.new.token.me ≡ (knows next v.base v.low v.high false, []) = c.show-entries.ensures.idle ∙ ap (λ (m : Sat g.K.Keeper.rows g.K.Keeper.faults). (turning (seeing m.0 next) false, [])) c.take-book.ensures.turn in
+    let t = c.show-entries.new.token in
     let after : Seated = record { site = t.table_id; id = t.id; seen = t.me.0.seen; base = t.me.0.base; low = c.seat.inside.low; high = c.seat.inside.high } in
     let before = c.take-book.result.history in (
       before,
       c.in-Ok.ensures.number,
       subst (λ (s : Seated). Adds s before (Publish s.low (published_of c.in-Ok.number c.args.candidate)) after) c.seat.view_is
-          (adds_seat _ _ _ _ _ _ _ v before next (Publish c.seat.inside.low (published_of c.in-Ok.number c.args.candidate)) (c.show.ensures.site.0 ∙ c.take-book.ensures.site.0) (c.show.ensures.site.1 ∙ c.take-book.ensures.site.1) is inv.0 c.take-book.ensures.later c.in-Ok.ensures.entry inv.0 c.show.ensures.legal),
+          (adds_seat _ _ _ _ _ _ _ v before next (Publish c.seat.inside.low (published_of c.in-Ok.number c.args.candidate)) (c.show-entries.ensures.site.0 ∙ c.take-book.ensures.site.0) (c.show-entries.ensures.site.1 ∙ c.take-book.ensures.site.1) is inv.0 c.take-book.ensures.later c.in-Ok.ensures.entry inv.0 c.show-entries.ensures.legal),
     )

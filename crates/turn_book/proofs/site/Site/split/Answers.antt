@@ -1,4 +1,4 @@
-use Rattle.std.proofs.Common.{rules, ◌≡◌, ◌+◌, ◌<◌, arith}
+use Rattle.std.proofs.Common.{rules, ◌+◌, ◌<◌, arith}
 use Rattle.turn_book.proofs.Keeps.{splitting}
 use Rattle.turn_book.proofs.site.Site.split.Goals as goal
 
