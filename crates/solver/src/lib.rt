@@ -4,4 +4,4 @@
 mod reading;
 mod solving;
 
-pub use solving::{solve_alone, solve_one};
+pub use solving::{solve_alone, solve_level, solve_one};

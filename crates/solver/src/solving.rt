@@ -26,8 +26,11 @@ fn workspace_for(alloc: Global, frozen: &Frozen) -> Result<Workspace, NoMemory>
     Workspace::reserve(alloc, frozen.accounts(), frozen.certs())
 }
 
-/// Solves the graph at a level.
-fn solve_level<L: Ledger>(
+/// The roster of a grade over a graph, solved in a workspace that has room for it. It takes memory for the roster alone.
+///
+/// # Errors
+/// [`NoMemory`] where that memory can't be had, and for no other cause.
+pub fn solve_level<L: Ledger>(
     alloc: Global,
     workspace: &mut Workspace,
     frozen: &Frozen,
