@@ -1,0 +1,4 @@
+pub mod Asking
+pub mod Dating
+pub mod Following
+pub mod Deciding

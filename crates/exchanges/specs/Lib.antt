@@ -1,0 +1,4 @@
+pub mod Asked
+pub mod Exchanges
+pub mod Answering
+pub mod inner
