@@ -11,6 +11,7 @@ import sqlite3
 import subprocess
 import sys
 import tempfile
+from contextlib import closing
 from pathlib import Path
 
 TOP = Path(__file__).resolve().parent.parent
@@ -36,14 +37,14 @@ def play(file, *lines):
 
 
 def rows(file):
-    with sqlite3.connect(file) as database:
+    with closing(sqlite3.connect(file)) as database:
         if database.execute("PRAGMA integrity_check").fetchone() != ("ok",):
             return None
         return database.execute("SELECT seq, body FROM kept ORDER BY seq").fetchall()
 
 
 def keep_old_rows(file):
-    with sqlite3.connect(file) as database:
+    with closing(sqlite3.connect(file)) as database, database:
         database.execute("CREATE TABLE kept (seq INTEGER PRIMARY KEY, body BLOB NOT NULL)")
         database.executemany("INSERT INTO kept (body) VALUES (?)", ((row,) for row in OLD_ROWS))
 
