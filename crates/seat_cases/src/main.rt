@@ -1,17 +1,22 @@
 //! Shows what seats at one site see of one another. The input has scenes, a step a line, each scene ended by an empty line. Its first line says what it is
 //! about, and under each step comes the answer. A scene has a site of its own, with the table `3 2 1`, and two seats: `1`, which the site was opened with, and
-//! `2`, which was split off it. A step of seat 2 is taken while another thread runs, which does
-//! nothing. A step is one of these:
+//! `2`, which was split off it. Seat 2 goes to another thread for each of its steps, and comes back with the answer. A step is one of these:
 //!
 //! - `N: NAME joins`, `N: NAME is a seed`, `N: NAME certifies NAME LEVEL`, `N: NAME writes TEXT`, which that seat submits;
 //! - `N: publish`: that seat freezes the site, solves the graph and publishes the rosters;
 //! - `N: publish, while NAME certifies NAME LEVEL`: the same, with a certificate submitted before it solves;
 //! - `N: news`, `N: diary of NAME`;
 //! - `N: split K`: that seat is split so often;
+//! - `reader, while NAME ..`: seat 2 keeps the last publication, when seat 1 submits this and publishes again;
+//! - `worker, while NAME ..`: a worker's round through seat 1 in another thread, which is held before it solves until seat 2 was answered;
+//! - `levels`: the site's graph is solved at all grades at once;
+//! - `load COUNT beside READERS: ACT`: the same act so often through seat 1, while so many readers, each in a thread of its own, look at the news;
 //! - `close`, the last step, with seat 1.
 #![tactic(auto)]
 
 mod acts;
+mod loads;
+mod meetings;
 mod scenes;
 mod steps;
 

@@ -2,10 +2,14 @@
 
 ghost use Rattle.std.specs.Prelude.{◌≡◌};
 
+use crate::acts::act_of;
+use crate::loads::load;
+use crate::meetings::{levels_at_once, read_on, work_beside};
 use crate::steps::take_step;
 use anyhow::{Result, bail};
 use outside::MemKeeper;
 use site_core::Book;
+use site_history::Act;
 use std::alloc::{AllocError, Global};
 use std::sync::Wait;
 use std::thread::{Threads, join};
@@ -43,13 +47,25 @@ impl Scene {
         }
     }
 
-    /// Takes a step: one of seat 1 alone, one of seat 2 beside another thread.
+    /// Takes a step: one of seat 1 in this thread, one of seat 2 in another.
     fn take<R: Threads + Wait + Sync>(
         self,
         rt: &R,
         alloc: Global,
         step: &str,
     ) -> Result<(Scene, String)> {
+        if step == "levels" {
+            return self.levels(rt, alloc);
+        }
+        if let Some(words) = step.strip_prefix("load ") {
+            return self.load(rt, alloc, words);
+        }
+        if let Some(words) = step.strip_prefix("reader, while ") {
+            return self.read(rt, alloc, act_of(alloc, words)?);
+        }
+        if let Some(words) = step.strip_prefix("worker, while ") {
+            return self.work(rt, alloc, act_of(alloc, words)?);
+        }
         let Some((number, step)) = step.split_once(": ") else {
             bail!("a step begins with a seat")
         };
@@ -67,16 +83,18 @@ impl Scene {
             second,
         } = self;
         let (first, answer) = with_seat(rt, alloc, &site, first, step);
-        Ok((
-            Scene {
-                site,
-                first,
-                second,
-            },
-            answer?,
-        ))
+        let scene = Scene {
+            site,
+            first,
+            second,
+        };
+        match answer {
+            Some(answer) => Ok((scene, answer)),
+            None => bail!("a step of seat 1 failed"),
+        }
     }
 
+    /// Takes a step in a thread of its own, to which seat 2 goes.
     fn apart<R: Threads + Wait + Sync>(
         self,
         rt: &R,
@@ -89,22 +107,114 @@ impl Scene {
             second,
         } = self;
         let shared = &site;
-        let (_, (second, answer)) = join(
+        let ((second, answer), ()) = join(
             rt,
-            || {},
-            move || -> (Seat<MemKeeper>, Result<String>)
+            move || -> (Seat<MemKeeper>, Option<String>)
                 requires { second.site ≡ shared.now.table.shared.table_id }
                 ensures { result.0.site ≡ second.site }
             { with_seat(rt, alloc, shared, second, step) },
+            || {},
         );
+        let scene = Scene {
+            site,
+            first,
+            second,
+        };
+        match answer {
+            Some(answer) => Ok((scene, answer)),
+            None => bail!("a step of seat 2 failed"),
+        }
+    }
+
+    /// Seat 2 reads, and seat 1 publishes meanwhile.
+    fn read<R: Wait>(self, rt: &R, alloc: Global, act: Act) -> Result<(Scene, String)> {
+        let Scene {
+            site,
+            mut first,
+            mut second,
+        } = self;
+        let answer = read_on(rt, alloc, &site, &mut first, &mut second, act)?;
         Ok((
             Scene {
                 site,
                 first,
                 second,
             },
-            answer?,
+            answer,
         ))
+    }
+
+    /// A worker has seat 1, and seat 2 submits meanwhile.
+    fn work<R: Threads + Wait + Sync>(
+        self,
+        rt: &R,
+        alloc: Global,
+        act: Act,
+    ) -> Result<(Scene, String)> {
+        let Scene {
+            site,
+            first,
+            second,
+        } = self;
+        let (mut first, second, worked) = work_beside(rt, alloc, &site, first, second, act);
+        let answer = worked.told(rt, alloc, &site, &mut first)?;
+        Ok((
+            Scene {
+                site,
+                first,
+                second,
+            },
+            answer,
+        ))
+    }
+
+    fn levels<R: Threads + Wait + Sync>(self, rt: &R, alloc: Global) -> Result<(Scene, String)> {
+        let Scene {
+            site,
+            mut first,
+            second,
+        } = self;
+        let answer = levels_at_once(rt, alloc, &site, &mut first)?;
+        Ok((
+            Scene {
+                site,
+                first,
+                second,
+            },
+            answer,
+        ))
+    }
+
+    /// Many acts through seat 1.
+    fn load<R: Threads + Wait + Sync>(
+        self,
+        rt: &R,
+        alloc: Global,
+        words: &str,
+    ) -> Result<(Scene, String)> {
+        let Some((numbers, act)) = words.split_once(": ") else {
+            bail!("a load has an act")
+        };
+        let Some((count, readers)) = numbers.split_once(" beside ") else {
+            bail!("a load has two numbers")
+        };
+        let count = count.parse()?;
+        let readers = readers.parse()?;
+        let Scene {
+            site,
+            first,
+            second,
+        } = self;
+        let (first, replies) = load(rt, alloc, &site, first, readers, count, act);
+        let scene = Scene {
+            site,
+            first,
+            second,
+        };
+        match replies {
+            Some(replies) => Ok((scene, format!(in alloc; "{replies} replies")?)),
+            None => bail!("a load failed"),
+        }
     }
 
     /// Closes the site with seat 1.
@@ -125,18 +235,18 @@ impl Scene {
     }
 }
 
-/// Takes a step through a seat, and hands the seat back.
+/// Takes a step through a seat, and hands the seat back; with no answer where the step failed.
 fn with_seat<R: Wait>(
     rt: &R,
     alloc: Global,
     site: &Site<MemKeeper>,
     mut seat: Seat<MemKeeper>,
     step: &str,
-) -> (Seat<MemKeeper>, Result<String>)
+) -> (Seat<MemKeeper>, Option<String>)
     requires { seat.site ≡ site.now.table.shared.table_id }
     ensures { result.0.site ≡ seat.site }
 {
-    let answer = take_step(rt, alloc, site, &mut seat, step);
+    let answer = take_step(rt, alloc, site, &mut seat, step).ok();
     (seat, answer)
 }
 

@@ -14,7 +14,7 @@ use trust_types::Text;
 use turn_book::{Seat, Site, SplitFault};
 
 /// An answer in words.
-fn told(alloc: Global, answer: &Answer) -> Result<String, AllocError> {
+pub(crate) fn told(alloc: Global, answer: &Answer) -> Result<String, AllocError> {
     match answer {
         Ok(reply) => format!(in alloc; "{reply}"),
         Err(refusal) => format!(in alloc; "refused: {refusal}"),
@@ -22,7 +22,12 @@ fn told(alloc: Global, answer: &Answer) -> Result<String, AllocError> {
 }
 
 /// Submits an act at the moment 0.
-fn submit<K: Keeper, R: Wait>(rt: &R, site: &Site<K>, seat: &mut Seat<K>, act: Act) -> Answer
+pub(crate) fn submit<K: Keeper, R: Wait>(
+    rt: &R,
+    site: &Site<K>,
+    seat: &mut Seat<K>,
+    act: Act,
+) -> Answer
     requires { seat.old.site ≡ site.now.table.shared.table_id }
     ensures site { seat.new.site ≡ seat.old.site }
     ensures later { StartsWith seat.new.seen seat.old.seen }
@@ -52,7 +57,7 @@ fn meanwhile<K: Keeper, R: Wait>(
 }
 
 /// Freezes the site, has an act answered meanwhile, solves the graph and publishes the rosters.
-fn publish<K: Keeper, R: Wait>(
+pub(crate) fn publish<K: Keeper, R: Wait>(
     rt: &R,
     alloc: Global,
     site: &Site<K>,
