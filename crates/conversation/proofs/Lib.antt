@@ -1,0 +1,4 @@
+mod Bytes
+mod Talks
+mod Ending
+mod Whole

@@ -1,0 +1,4 @@
+pub mod Conversations
+pub mod Ends
+pub mod Laws
+pub mod inner
