@@ -1,7 +1,7 @@
 -- What a run comes to before anything is written: a status, and the text to write.
 use Rattle.std.specs.Prelude.{ℕ, List, [], codes, Result, Ok, Err}
 use Rattle.commands.specs.declared.status.Status.{Status}
-use Rattle.commands.specs.declared.status.Status.TheVariants.{Done, No, Usage, Text, InputFull, ReadFault, WriteFault, KeeperFault, BadRow, NoMemory, RowsFull}
+use Rattle.commands.specs.declared.status.Status.TheVariants.{Done, No, Usage, Text, InputFull, ReadFault, WriteFault, KeeperFault, BadRow, NoMemory, PortFault, RowsFull}
 use Rattle.commands.specs.declared.outcome.Outcome.{Outcome}
 use Rattle.commands.specs.declared.outcome.Outcome.TheVariants as run
 
@@ -34,6 +34,7 @@ code_of WriteFault = 6
 code_of KeeperFault = 7
 code_of BadRow = 8
 code_of NoMemory = 9
+code_of PortFault = 10
 code_of RowsFull = 11
 
 -- The number with which the process ends; where the run couldn't start, memory ran out.

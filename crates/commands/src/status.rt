@@ -24,6 +24,8 @@ pub enum Status {
     BadRow = 8,
     /// Memory ran out.
     NoMemory = 9,
+    /// A server's port failed.
+    PortFault = 10,
     /// A row of a site's keeper passes a limit.
     RowsFull = 11,
 }

@@ -38,6 +38,14 @@ TellsUnopened (opens.BadRow n) answer = (answer.status ≡ status.BadRow) × (an
 TellsUnopened (opens.Full n) answer = (answer.status ≡ status.RowsFull) × (answer.text.items ≡ codes "row " ++ decimal n ++ codes " passes a limit\n")
 TellsUnopened opens.NoMemory answer = ⊥
 
+-- What a run comes to where no site was opened over the rows.
+abbrev pub ComesToUnopened : OpenFault → Outcome → Type 0
+ComesToUnopened fault (Answered answer) = TellsUnopened fault answer
+ComesToUnopened fault Misused = ⊥
+ComesToUnopened fault TooLong = ⊥
+ComesToUnopened fault Unread = ⊥
+ComesToUnopened fault OutOfMemory = Unit {0}
+
 -- The answer has the output of the lines, which led from a history to another: of all of them, or of a first part, behind which memory ran out.
 abbrev pub IsRunOf : List ScriptLine → History → History → Answer → Type 0
 IsRunOf lines before after answer =

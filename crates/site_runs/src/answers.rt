@@ -6,7 +6,7 @@ ghost use Rattle.text_lines.specs.Reading.{ReadsAll};
 ghost use Rattle.script_text.specs.Faults.{fault_of};
 ghost use Rattle.script_text.specs.Scripts.{ScriptText, script, IsScriptOf};
 ghost use Rattle.site_core.specs.Books.{IsSound};
-ghost use Rattle.site_runs.specs.Runs.{ComesAfter, IsRunOf, TellsUnopened};
+ghost use Rattle.site_runs.specs.Runs.{ComesAfter, ComesToUnopened, IsRunOf, TellsUnopened};
 ghost use Rattle.site_runs.specs.inner.Answers.{outcome_of};
 
 use crate::ran::Kept;
@@ -66,7 +66,7 @@ fn open<K: Keeper>(alloc: Global, script: SiteScript, keeper: K) -> (Outcome, Ke
             let answer = played(alloc, &mut book, script);
             (Outcome::Answered(answer), Kept::Book(book))
         }
-        Err(Unopened { fault, keeper }) => (outcome_of(refuse(alloc, fault)), Kept::Keeper(keeper)),
+        Err(Unopened { fault, keeper }) => (unopened(alloc, fault), Kept::Keeper(keeper)),
     }
 }
 
@@ -88,6 +88,13 @@ fn played<K: Keeper>(alloc: Global, book: &mut Book<K>, script: SiteScript) -> A
             text,
         },
     }
+}
+
+/// What a run comes to where no site was opened: why, as it is told, or that memory ran out.
+pub fn unopened(alloc: Global, fault: OpenFault) -> Outcome
+    ensures { ComesToUnopened fault result }
+{
+    outcome_of(refuse(alloc, fault))
 }
 
 /// Why a site wasn't opened, as it is told.

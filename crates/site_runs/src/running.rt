@@ -59,8 +59,8 @@ fn run_apart<S: Source, W: Sink>(
     }
 }
 
-/// Writes the text of an outcome, and answers its status.
-fn tell<W: Sink>(sink: &mut W, outcome: &Outcome) -> Status
+/// Writes the text of an outcome, and answers its status, or that a write failed.
+pub fn tell<W: Sink>(sink: &mut W, outcome: &Outcome) -> Status
     ensures { let held : Output = record { held = W.held sink.old; faults = W.faults sink.old } in
         let holds : Output = record { held = W.held sink.new; faults = W.faults sink.new } in
         IsTold outcome.now held holds result }

@@ -1,8 +1,9 @@
 //! What the words of a command line ask of a site.
 
 ghost use Rattle.std.specs.Prelude.{◌≡◌, ◌∷◌, [], map, Some, None, IfOk, MatchOption, IsTrue, is_some};
-ghost use Rattle.site_runs.specs.Words.{drill_of, file_of, is_script, wants_of};
+ghost use Rattle.site_runs.specs.Words.{drill_of, file_of, is_script, AsksFor};
 
+use serve_words::ServePlan;
 use std::alloc::Global;
 use text_lines::number;
 use trust_types::{NoMemory, Text};
@@ -14,6 +15,8 @@ pub enum Wants {
     Run,
     /// The file in which the rows of a site are kept.
     RunOn(Text),
+    /// What a server works by.
+    Serve(ServePlan),
 }
 
 /// The file that the words `script --db FILE` name; `None` for other words, and where FILE is empty.
@@ -65,15 +68,19 @@ fn number_behind(command: &str, word: &str) -> Option<u32>
 }
 
 impl Wants {
-    /// What the program needs for these words: a file exactly for `script --db FILE` with a FILE that isn't empty.
+    /// What the program needs for these words: a plan exactly where they are `serve` and give one ([`ServePlan::of_words`]), a file exactly for
+    /// `script --db FILE` with a FILE that isn't empty.
     ///
     /// # Errors
-    /// [`NoMemory`] where there isn't enough for the file's name.
+    /// [`NoMemory`] where there isn't enough for the plan or for the file's name.
     pub fn of_words(alloc: Global, words: &[&str]) -> Result<Wants, NoMemory>
-        ensures { IfOk result (λ wants. wants ≡ wants_of (map (λ word. word.now) words.now)) }
+        ensures { IfOk result (AsksFor (map (λ word. word.now) words.now)) }
     {
-        match file_of(words) {
-            Some(file) => Ok(Wants::RunOn(Text::of(alloc, file)?)),
+        if let Some(file) = file_of(words) {
+            return Ok(Wants::RunOn(Text::of(alloc, file)?));
+        }
+        match ServePlan::of_words(alloc, words)? {
+            Some(plan) => Ok(Wants::Serve(plan)),
             None => Ok(Wants::Run),
         }
     }

@@ -1,0 +1,3 @@
+mod Parting
+mod Reading
+mod Simple
