@@ -1,0 +1,4 @@
+pub mod Rising
+pub mod Causes
+pub mod Told
+pub mod Sent
