@@ -62,7 +62,7 @@ pub append_twice : (o m n : Told) (a b : List ℕ) → m ≡ append_known o a �
 append_twice o m n a b p q = q ∙ (ap (λ (z : Told). append_known z b) p ∙ append_known-append o a b)
 
 pub reads_none : (o : Line) (rest : List ℕ) → Reads o o rest rest
-reads_none o rest = record { bytes = []; grows = sym (append-nil rest); read = sym (prepend_known-nil o.left); written = refl }
+reads_none o rest = record { bytes = []; grows = sym (append-nil rest); read = sym (prepend_known-nil o.left); written = refl; few = λ l. l }
 
 pub reads_got : (o m n : Line) (rest more most : List ℕ) (k : ℕ) → Reads o m rest more → Got m n more most k → Reads o n rest most
 reads_got o m n rest more most k h g =
@@ -71,11 +71,12 @@ reads_got o m n rest more most k h g =
       grows = g.grows ∙ (ap (λ (z : List ℕ). z ++ g.bytes) h.grows ∙ append_assoc rest h.bytes g.bytes);
       read = prepend_twice o.left m.left n.left h.bytes g.bytes h.read g.read;
       written = g.written ∙ h.written;
+      few = λ _. g.within;
     }
 
 pub reads_broke : (o m n : Line) (rest more most : List ℕ) → Reads o m rest more → Broke m n → most ≡ more → Reads o n rest most
 reads_broke o m n rest more most h b e =
-    record { bytes = h.bytes; grows = e ∙ h.grows; read = h.read ∙ ap (prepend_known h.bytes) (sym b.left); written = b.written ∙ h.written }
+    record { bytes = h.bytes; grows = e ∙ h.grows; read = h.read ∙ ap (prepend_known h.bytes) (sym b.left); written = b.written ∙ h.written; few = λ l. subst (λ (z : List ℕ). length z ≤ 81920) (sym e) (h.few l) }
 
 pub put_none : (o : Line) (piece : List ℕ) → Put o o (take 0 piece)
 put_none o piece = record { left = refl; written = sym (append_known-nil o.written); faults = refl; ends = refl }

@@ -13,7 +13,7 @@ use Rattle.http_pages.specs.Fixed.{fixed_response, fixed_statuses}
 use Rattle.http_pages.specs.Responses.{bytes_of}
 use Rattle.outside_serving.specs.Clocks.{Dial, IsShown}
 use Rattle.outside_serving.specs.Links.{Line, Put}
-use Rattle.outside_serving.specs.Words.{ToldWords, Pool, after_draws}
+use Rattle.outside_serving.specs.Words.{ToldWords, Missed, Pool, after_draws}
 use Rattle.trust_types.specs.Kept.{IsMoment}
 use Rattle.site_history.specs.Legal.{IsLegal}
 use Rattle.turn_book.specs.Seats.{Seated, Looks, mine}
@@ -27,11 +27,11 @@ use Rattle.exchanges.specs.Exchanges.{Content, Answered, AreResponses, answered,
 use Rattle.exchanges.proofs.Following.{responses_next, flat_next}
 use Rattle.conversation.specs.declared.linking.Why.{Why}
 use Rattle.conversation.specs.declared.linking.Why.TheVariants as why
-use Rattle.conversation.specs.Ends.{World, Each, IsOpen, IsPartOf, IsAtItsEnd, StaysOpen, world}
+use Rattle.conversation.specs.Ends.{World, Each, IsOpen, IsPartOf, IsAtItsEnd, NeedsMoment, NeedsToken, StaysOpen, world}
 use Rattle.conversation.specs.Conversations.{AreWords, Exchanged}
 use Rattle.conversation.specs.inner.Hearing.{Delivers, DrawnFor, Reads, Stuck}
 use Rattle.conversation.specs.inner.Talking.{Ended, Goes, Grows, Talking}
-use Rattle.conversation.proofs.Talks.{Draws, answered_on, drew_on, each_next, extra_on, grows_twice, has_token, looked_on, looks_grows, reads_on}
+use Rattle.conversation.proofs.Talks.{Draws, answered_on, drawn_faults, drawn_so, drew_on, each_next, extra_on, grows_twice, has_token, looked_on, looks_grows, reads_on}
 
 few : (all : List Answered) (log : List Exchange) → log ≡ map logged all → length log < MOST_EXCHANGES → length all < MOST_EXCHANGES
 few all log e l = subst (λ (n : ℕ). n < MOST_EXCHANGES) (ap length e ∙ length-map all logged) l
@@ -49,8 +49,8 @@ module _ (v : World) (s : Seated) (line : Line) (dial : Dial) (pool : Pool) (log
   open_so l = record { responses = k.responses; stays = k.stays; few = few k.all log k.exchanged.log l }
 
   -- the clock failed
-  pub clock_failed : (dial' : Dial) → length log < MOST_EXCHANGES → dial'.shows ≡ dial.shows → dial'.faults ≡ one_more dial.faults → Ended v (world s line dial' pool) log why.ClockFault
-  clock_failed dial' l shows cause = record {
+  pub clock_failed : (dial' : Dial) → NeedsMoment rest → length log < MOST_EXCHANGES → dial'.shows ≡ dial.shows → dial'.faults ≡ one_more dial.faults → Ended v (world s line dial' pool) log why.ClockFault
+  clock_failed dial' needs l shows cause = record {
     grows = k.grows;
     conversed = record {
       rest = rest;
@@ -58,35 +58,41 @@ module _ (v : World) (s : Seated) (line : Line) (dial : Dial) (pool : Pool) (log
       all = k.all;
       exchanged = looked_on v s s line dial dial' pool pool log rest k.said k.all k.exchanged (starts_self s.seen) refl shows;
       causes = record { link = k.link; clock = cause ∙ ap one_more k.clock; entropy = k.entropy };
-      ends = record { is_open = open_so l; ends = k.ends };
+      ends = (needs, record { is_open = open_so l; ends = k.ends });
+      draws = k.draws;
     };
   }
 
   -- the source of words failed
-  pub entropy_failed : (dial' : Dial) (pool' : Pool) → length log < MOST_EXCHANGES → dial'.shows ≡ dial.shows → dial'.faults ≡ dial.faults → pool'.faults ≡ one_more pool.faults → Ended v (world s line dial' pool') log why.EntropyFault
-  entropy_failed dial' pool' l shows same cause = record {
+  pub entropy_failed : (dial' : Dial) (pool' : Pool) → NeedsToken rest → length log < MOST_EXCHANGES → dial'.shows ≡ dial.shows → dial'.faults ≡ dial.faults → Missed pool pool' → Ended v (world s line dial' pool') log why.EntropyFault
+  entropy_failed dial' pool' needs l shows same missed = record {
     grows = k.grows;
     conversed = record {
       rest = rest;
       said = k.said;
       all = k.all;
       exchanged = looked_on v s s line dial dial' pool pool' log rest k.said k.all k.exchanged (starts_self s.seen) refl shows;
-      causes = record { link = k.link; clock = same ∙ k.clock; entropy = cause ∙ ap one_more k.entropy };
-      ends = record { is_open = open_so l; ends = k.ends };
+      causes = record { link = k.link; clock = same ∙ k.clock; entropy = missed.faults ∙ ap one_more k.entropy };
+      ends = (needs, record { is_open = open_so l; ends = k.ends });
+      draws = missed.words ∙ k.draws;
     };
   }
 
   -- memory ran out before there was an answer
-  pub wanted : (t : Seated) (dial' : Dial) (pool' : Pool) → Looks s t → dial'.shows ≡ dial.shows → dial'.faults ≡ dial.faults → pool'.faults ≡ pool.faults → Ended v (world t line dial' pool') log why.NoMemory
-  wanted t dial' pool' looks shows same drawn_same = record {
+  pub wanted : (t : Seated) (dial' : Dial) (pool' : Pool) (q : Request) (used : ℕ) (token : Option (List ℕ)) → IsRequest rest (Whole q used) → Looks s t → dial'.shows ≡ dial.shows → dial'.faults ≡ dial.faults → DrawnFor (is_login q.route) pool pool' token → Ended v (world t line dial' pool') log why.NoMemory
+  wanted t dial' pool' q used token is looks shows same w = record {
     grows = grows_twice v.seat s t k.grows (looks_grows s t looks);
     conversed = record {
       rest = rest;
       said = k.said;
       all = k.all;
       exchanged = looked_on v s t line dial dial' pool pool' log rest k.said k.all k.exchanged looks.begins looks.none_made shows;
-      causes = record { link = k.link; clock = same ∙ k.clock; entropy = drawn_same ∙ k.entropy };
+      causes = record { link = k.link; clock = same ∙ k.clock; entropy = drawn_faults (is_login q.route) pool pool' token w ∙ k.entropy };
       ends = (k.ends, inl k.responses);
+      draws = elim (drawn_so v.pool.words (is_login q.route) pool pool' (drawn k.all) token k.draws k.exchanged.words w) [
+        | inl none ↦ inl none
+        | inr one ↦ inr ((q, used, is, one.0), one.1)
+      ];
     };
   }
 
@@ -101,6 +107,7 @@ module _ (v : World) (s : Seated) (line : Line) (dial : Dial) (pool : Pool) (log
       exchanged = looked_on v s s line dial dial' pool pool log rest k.said k.all k.exchanged (starts_self s.seen) refl shows;
       causes = record { link = k.link; clock = same ∙ k.clock; entropy = k.entropy };
       ends = (k.ends, inl k.responses);
+      draws = inl k.draws;
     };
   }
 
@@ -125,6 +132,7 @@ module _ (v : World) (s : Seated) (line : Line) (dial : Dial) (pool : Pool) (log
               part k.said page (k.said ++ page) e.said e.short refl,
             ),
           );
+          draws = k.draws;
         };
       }
 
@@ -151,6 +159,7 @@ module _ (v : World) (s : Seated) (line : Line) (dial : Dial) (pool : Pool) (log
               record { is_open = open_so l; ends = e.ends ∙ k.ends },
             ),
           );
+          draws = k.draws;
         };
       }
 
@@ -185,6 +194,7 @@ module _ (v : World) (s : Seated) (line : Line) (dial : Dial) (pool : Pool) (log
       exchanged = reads_on v s line next dial pool log rest more k.said k.all k.exchanged h;
       causes = record { link = faults ∙ k.link; clock = k.clock; entropy = k.entropy };
       ends = inl (e, at_end next l nothing ends);
+      draws = k.draws;
     };
   }
 
@@ -200,6 +210,7 @@ module _ (v : World) (s : Seated) (line : Line) (dial : Dial) (pool : Pool) (log
       exchanged = reads_on v s line next dial pool log rest more k.said k.all k.exchanged h;
       causes = record { link = faults ∙ k.link; clock = k.clock; entropy = k.entropy };
       ends = (e, need, at_end next l nothing ends);
+      draws = k.draws;
     };
   }
 
@@ -214,6 +225,7 @@ module _ (v : World) (s : Seated) (line : Line) (dial : Dial) (pool : Pool) (log
       exchanged = reads_on v s line next dial pool log rest more k.said k.all k.exchanged h;
       causes = record { link = faults ∙ ap one_more k.link; clock = k.clock; entropy = k.entropy };
       ends = record { is_open = open_so l; ends = ends ∙ k.ends };
+      draws = k.draws;
     };
   }
 
@@ -228,6 +240,7 @@ module _ (v : World) (s : Seated) (line : Line) (dial : Dial) (pool : Pool) (log
       exchanged = k.exchanged;
       causes = record { link = k.link; clock = k.clock; entropy = k.entropy };
       ends = (sym (length-map k.all logged) ∙ (sym (ap length k.exchanged.log) ∙ l), k.stays, record { responses = k.responses; ends = k.ends });
+      draws = k.draws;
     };
   }
 
@@ -270,6 +283,7 @@ goes v t line next dial pool log rest said all a (Some why.Closed) g say respons
     exchanged = say bytes put.left put.written;
     causes = record { link = put.faults ∙ n.link; clock = n.clock; entropy = n.entropy };
     ends = inr ((all, a, refl, closing), record { responses = responses_next all said a bytes responses sent; ends = put.ends ∙ n.ends });
+    draws = n.draws;
   };
 }
 goes v t line next dial pool log rest said all a (Some why.WriteFault) g say responses stays n (bytes, sent, stuck) = record {
@@ -281,6 +295,7 @@ goes v t line next dial pool log rest said all a (Some why.WriteFault) g say res
     exchanged = say (take stuck.said bytes) stuck.left stuck.written;
     causes = record { link = stuck.faults ∙ ap one_more n.link; clock = n.clock; entropy = n.entropy };
     ends = (stuck.ends ∙ n.ends, (said ++ bytes, inl (responses_next all said a bytes responses sent), part said bytes (said ++ bytes) stuck.said stuck.short refl));
+    draws = n.draws;
   };
 }
 goes v t line next dial pool log rest said all a (Some why.NoMemory) g say responses stays n same = record {
@@ -292,6 +307,7 @@ goes v t line next dial pool log rest said all a (Some why.NoMemory) g say respo
     exchanged = say [] (ap (λ (l : Line). l.left) same) (ap (λ (l : Line). l.written) same ∙ sym (append_known-nil line.written));
     causes = record { link = ap (λ (l : Line). l.faults) same ∙ n.link; clock = n.clock; entropy = n.entropy };
     ends = (ap (λ (l : Line). l.ends) same ∙ n.ends, inr (all, a, refl, subst (λ (z : List ℕ). AreResponses all z) (sym (append-nil said)) responses));
+    draws = inl n.draws;
   };
 }
 goes v t line next dial pool log rest said all a (Some why.CutShort) g say responses stays n e = absurd e
@@ -344,6 +360,7 @@ begun s line dial pool legal = record {
     read = sym (prepend_known-nil line.left);
     requests = refl;
     closing = tt;
+    few = omega arith;
     written = sym (append_known-nil line.written);
     log = refl;
     follow = starts_self s.seen;

@@ -1,5 +1,5 @@
 -- What a conversation has come to after each step.
-use Rattle.std.proofs.Common.{ℕ, ◌≡◌, ◌+◌, ◌<◌, ◌⊎◌, List, [], ◌∷◌, ◌++◌, length, drop, get_or, Option, Some, None, refl, sym, ap, ◌∙◌, arith, subst, inl, inr, length-append, append_assoc, Bool, true, false}
+use Rattle.std.proofs.Common.{ℕ, ◌≡◌, ◌+◌, ◌<◌, ◌⊎◌, List, [], ◌∷◌, ◌++◌, length, drop, get_or, Option, Some, None, refl, sym, ap, ◌∙◌, arith, subst, inl, inr, length-append, length-drop, append_assoc, Bool, true, false}
 use Rattle.std.specs.Prelude.{is_some, option_to_list, replicate}
 use Rattle.std.specs.Io.KnownBytes.{prepend_known, append_known}
 use Rattle.std.proofs.lemmas.List.{append-nil, map-append, get_or_append_left, get_or-drop, drop-drop}
@@ -88,6 +88,15 @@ has_token true before now None d = absurd d
 has_token false before now (Some w) d = absurd d
 has_token false before now None d = refl
 
+-- a word was drawn for a login, or none
+pub drawn_so : (words : ToldWords) (login : Bool) (before now : Pool) (ds : List (List ℕ)) (token : Option (List ℕ)) → before.words ≡ after_draws (length ds) words → AreWords words ds → DrawnFor login before now token
+    → (now.words ≡ after_draws (length ds) words) ⊎ ((login ≡ true) × (now.words ≡ after_draws (length ds + 1) words))
+drawn_so words true before now ds (Some w) l a d =
+    inr (refl, (drew_on words true before now ds (Some w) l a d).left ∙ ap (λ (n : ℕ). after_draws n words) (length-append ds (w ∷ [])))
+drawn_so words true before now ds None l a d = absurd d
+drawn_so words false before now ds (Some w) l a d = absurd d
+drawn_so words false before now ds None l a d = inl (ap (λ (p : Pool). p.words) d ∙ l)
+
 pub drawn_faults : (login : Bool) (before now : Pool) (token : Option (List ℕ)) → DrawnFor login before now token → now.faults ≡ before.faults
 drawn_faults true before now (Some w) d = d.faults
 drawn_faults true before now None d = absurd d
@@ -114,6 +123,7 @@ reads_on v seat line next dial pool log rest more said all x h =
       read = prepend_twice v.line.left line.left next.left x.bytes h.bytes x.read h.read;
       requests = subst (λ (z : List ℕ). AreRequests (x.bytes ++ h.bytes) all z) (sym h.grows) (requests_more x.bytes h.bytes all rest x.requests);
       closing = x.closing;
+      few = h.few x.few;
       written = h.written ∙ x.written;
       log = x.log;
       follow = x.follow;
@@ -140,6 +150,7 @@ answered_on v s t line next dial dial' pool pool' log rest said piece all q used
       read = x.read ∙ ap (prepend_known x.bytes) (sym left);
       requests = requests_next x.bytes all rest a x.requests is;
       closing = closing_next all a stays;
+      few = omega (arith, x.few, length-drop used rest);
       written = append_twice v.line.written line.written next.written said piece x.written written;
       log = ap (λ (z : List Exchange). z ++ record { used = used; kind = kind } ∷ []) x.log ∙ sym (map-append logged all (a ∷ []));
       follow = follow_next v.seat.low v.seat.seen all s.seen a x.follow (subst (λ (n : ℕ). Answers n s.seen a kind) grows.same.low (d.answers used));
@@ -160,6 +171,7 @@ looked_on v s t line dial dial' pool pool' log rest said all x begins made shows
       read = x.read;
       requests = x.requests;
       closing = x.closing;
+      few = x.few;
       written = x.written;
       log = x.log;
       follow = follow_later v.seat.low v.seat.seen all s.seen t.seen begins x.follow;
@@ -180,6 +192,7 @@ extra_on v s line next dial dial' pool log rest said piece all x left written sh
       read = x.read ∙ ap (prepend_known x.bytes) (sym left);
       requests = x.requests;
       closing = x.closing;
+      few = x.few;
       written = append_twice v.line.written line.written next.written said piece x.written written;
       log = x.log;
       follow = x.follow;

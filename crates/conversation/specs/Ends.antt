@@ -1,17 +1,19 @@
 -- How a conversation over a link ends.
-use Rattle.std.specs.Prelude.{ℕ, ◌≡◌, ◌≢◌, ◌⊎◌, ◌<◌, Bool, true, false, List, [], ◌∷◌, ◌++◌, length}
+use Rattle.std.specs.Prelude.{ℕ, ◌≡◌, ◌≢◌, ◌⊎◌, ◌<◌, ◌+◌, Bool, true, false, List, [], ◌∷◌, ◌++◌, length}
 use Rattle.std.specs.Io.KnownBytes.{IsAtEnd}
 use Rattle.outside.specs.Causes.{HasCause, one_more}
 use Rattle.outside_serving.specs.Clocks.{Dial, IsShown}
 use Rattle.outside_serving.specs.Links.{Line}
-use Rattle.outside_serving.specs.Words.{Pool}
-use Rattle.http_requests.specs.declared.next.Next.TheVariants.{NeedMore, Bad}
+use Rattle.outside_serving.specs.Words.{ToldWords, Pool, after_draws}
+use Rattle.http_requests.specs.declared.next.Next.TheVariants.{Whole, NeedMore, Bad}
+use Rattle.http_requests.specs.declared.requests.Request.{Request}
 use Rattle.http_requests.specs.Requests.{IsRequest}
 use Rattle.http_pages.specs.Fixed.{fixed_response}
 use Rattle.http_pages.specs.Responses.{bytes_of}
 use Rattle.trust_types.specs.Kept.{IsMoment}
 use Rattle.turn_book.specs.Seats.{Seated}
-use Rattle.exchanges.specs.Exchanges.{Answered, AreResponses}
+use Rattle.exchanges.specs.Asked.{is_login}
+use Rattle.exchanges.specs.Exchanges.{Answered, AreResponses, drawn}
 use Rattle.exchanges.specs.declared.logs.TheConstants.{MOST_EXCHANGES}
 use Rattle.conversation.specs.declared.linking.Why.{Why}
 use Rattle.conversation.specs.declared.linking.Why.TheVariants as why
@@ -79,6 +81,14 @@ WasToSay before rest all whole =
     AreResponses all whole
     ⊎ ((status : ℕ) × (first page : List ℕ) × IsRequest rest (Bad status) × AreResponses all first × IsRefused before status page × (whole ≡ first ++ page))
 
+-- What came is to be answered: it begins with a request, or is none that is taken.
+abbrev pub NeedsMoment : List ℕ → Type 0
+NeedsMoment rest = ((q : Request) × (used : ℕ) × IsRequest rest (Whole q used)) ⊎ ((status : ℕ) × IsRequest rest (Bad status))
+
+-- It begins with a login.
+abbrev pub NeedsToken : List ℕ → Type 0
+NeedsToken rest = (q : Request) × (used : ℕ) × IsRequest rest (Whole q used) × (is_login q.route ≡ true)
+
 -- What each end says of the answered requests, of what was written, and of the rest of what was read.
 abbrev pub Ends : World → World → List ℕ → List ℕ → List Answered → Why → Type 0
 Ends before now rest said all why.Closed =
@@ -91,9 +101,15 @@ Ends before now rest said all (why.Bad status) =
 Ends before now rest said all why.ReadFault = IsUnderWay before now said all
 Ends before now rest said all why.WriteFault =
     (now.line.ends ≡ before.line.ends) × ((whole : List ℕ) × WasToSay before rest all whole × IsPartOf said whole)
-Ends before now rest said all why.ClockFault = IsUnderWay before now said all
-Ends before now rest said all why.EntropyFault = IsUnderWay before now said all
+Ends before now rest said all why.ClockFault = NeedsMoment rest × IsUnderWay before now said all
+Ends before now rest said all why.EntropyFault = NeedsToken rest × IsUnderWay before now said all
 Ends before now rest said all why.NoMemory = (now.line.ends ≡ before.line.ends) × (AreResponses all said ⊎ LacksLast said all)
+
+-- The words that are left are those behind the tokens of the answered requests. Where memory ran out, one more may have been drawn, for a login that then wasn't answered.
+abbrev pub IsDrawn : ToldWords → ToldWords → List ℕ → List Answered → Why → Type 0
+IsDrawn before now rest all why.NoMemory =
+    (now ≡ after_draws (length (drawn all)) before) ⊎ (NeedsToken rest × (now ≡ after_draws (length (drawn all) + 1) before))
+IsDrawn before now rest all other = now ≡ after_draws (length (drawn all)) before
 
 -- The object whose fault an end is has counted one fault, and no other has.
 abbrev pub is_of_link : Why → Bool

@@ -1,6 +1,6 @@
 //! One request after another.
 
-ghost use Rattle.std.specs.Prelude.{◌≡◌, ◌<◌, ◌+◌, [], ◌∷◌, ℕ, List, Option, length, drop, Some, None, IfNone, MatchResult};
+ghost use Rattle.std.specs.Prelude.{◌≡◌, ◌<◌, ◌+◌, [], ◌∷◌, ℕ, List, Option, length, drop, true, Some, None, IfNone, MatchResult};
 ghost use Rattle.exchanges.specs.Answering.{CanBeSent, content_of};
 ghost use Rattle.exchanges.specs.Asked.{is_login};
 ghost use Rattle.exchanges.specs.declared.logs.Exchange.{Exchange as AnyExchange};
@@ -34,7 +34,7 @@ use turn_book::{Seat, Site};
 
 /// The token of a login. Nothing is drawn for another request.
 fn draw<E: Entropy>(entropy: &mut E, route: &Route) -> Result<Option<Token>, Failed>
-    ensures { MatchResult result (DrawnFor (is_login route.now) (E.pool entropy.old) (E.pool entropy.new)) (λ _. Missed (E.pool entropy.old) (E.pool entropy.new)) }
+    ensures { MatchResult result (DrawnFor (is_login route.now) (E.pool entropy.old) (E.pool entropy.new)) (λ _. (is_login route.now ≡ true) × Missed (E.pool entropy.old) (E.pool entropy.new)) }
 {
     match route {
         Route::Login { .. } => {

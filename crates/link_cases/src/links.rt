@@ -15,8 +15,14 @@ use std::alloc::{AllocError, Global};
 use std::sync::Wait;
 use turn_book::{Seat, Site};
 
-/// How many bytes a client takes.
-const ROOM: usize = 4_194_304;
+/// What a client sends and takes at once, and in all.
+#[derive(Clone, Copy)]
+pub(crate) struct Client {
+    /// The most bytes that come, or are taken, at once: 1 at least.
+    pub piece: usize,
+    /// How many bytes are taken in all.
+    pub room: usize,
+}
 
 /// The first tokens that are drawn.
 const TOKENS: [[u8; 16]; 2] = [
@@ -72,20 +78,21 @@ fn open(alloc: Global, script: &str) -> Result<(Site<MemKeeper>, Seat<MemKeeper>
     Ok(Site::open(alloc, book)?)
 }
 
-/// Serves a client over a site of its own. Bytes come and are taken in pieces of that size at most.
+/// Serves a client over a site of its own.
 pub(crate) fn serve<R: Wait>(
     rt: &R,
     alloc: Global,
     talk: &Talk,
-    piece: usize,
+    client: Client,
     fault: Option<Fault>,
 ) -> Result<LinkEnd<MemLink>>
-    requires { 1 ≤ piece }
+    requires { 1 ≤ client.piece }
 {
     let (site, mut seat) = open(alloc, talk.script.as_str())?;
     let mut cache = Cache::new();
     let bytes = talk.sent.as_bytes().to_vec(alloc)?;
-    let link = MemLink::new(alloc, bytes, ROOM, piece, fails(alloc, fault, Part::Link)?)?;
+    let link_fails = fails(alloc, fault, Part::Link)?;
+    let link = MemLink::new(alloc, bytes, client.room, client.piece, link_fails)?;
     let mut clock = StillClock::new(alloc, 0, fails(alloc, fault, Part::Clock)?);
     let tokens = TOKENS.to_vec(alloc)?;
     let mut entropy = ListEntropy::new(alloc, tokens, fails(alloc, fault, Part::Entropy)?);

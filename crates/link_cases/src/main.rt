@@ -9,6 +9,8 @@
 //! - In a block that begins with `cuts: `, bytes come and are taken in pieces of each size, from one byte on, and the output says whether all that comes to the same.
 //! - In one that begins with `faults: `, they do so in pieces of 128 bytes, and the output has what comes of it where the first call of the link fails, where
 //!   the second one fails, and so on for each call that is made where none fails; then the same for the calls of the clock and those for a token.
+//! - In one that begins with `pieces N: `, they do so in pieces of N bytes; with `room N: `, the client takes N bytes and no more.
+//! - In one that begins with `copies N: `, what was written is copied N times, as something to measure a link by.
 #![tactic(auto)]
 
 mod links;

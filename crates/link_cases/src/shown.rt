@@ -2,8 +2,8 @@
 
 ghost use Rattle.std.specs.Prelude.{◌≤◌};
 
-use crate::links::{Fault, Part, serve};
-use crate::talks::Talk;
+use crate::links::{Client, Fault, Part, serve};
+use crate::talks::{Kind, Talk};
 use anyhow::Result;
 use conversation::LinkEnd;
 use outside_serving::MemLink;
@@ -17,11 +17,20 @@ const FEW: u64 = 16;
 /// The most bytes that are shown.
 const SHORT: usize = 8_192;
 
-/// The size of all pieces where nothing is cut.
-const WHOLE: usize = 65_536;
+/// How many bytes a client takes, where a block doesn't say.
+const ROOM: usize = 4_194_304;
 
-/// The size of pieces where calls fail.
-const PIECE: usize = 128;
+/// The client of whom nothing is cut.
+const WHOLE: Client = Client {
+    piece: 65_536,
+    room: ROOM,
+};
+
+/// The client where calls fail.
+const CUT: Client = Client {
+    piece: 128,
+    room: ROOM,
+};
 
 /// The most calls that are looked at.
 const CALLS: u64 = 1_000;
@@ -58,7 +67,7 @@ fn whole(alloc: Global, end: &LinkEnd<MemLink>) -> Result<String> {
 /// Whether the same comes of pieces of every size, in words.
 fn cuts<R: Wait>(rt: &R, alloc: Global, talk: &Talk, uncut: &str) -> Result<String> {
     for piece in 1..=talk.sent.len() {
-        let end = serve(rt, alloc, talk, piece, None)?;
+        let end = serve(rt, alloc, talk, Client { piece, room: ROOM }, None)?;
         if whole(alloc, &end)?.as_str() != uncut {
             return Ok(format!(in alloc; "not alike in pieces of {piece}\n")?);
         }
@@ -84,10 +93,10 @@ fn add_faults<R: Wait>(
     part: Part,
     out: &mut String,
 ) -> Result<()> {
-    let unhurt = serve(rt, alloc, talk, PIECE, None)?;
+    let unhurt = serve(rt, alloc, talk, CUT, None)?;
     let unhurt_shown = whole(alloc, &unhurt)?;
     for call in 0..CALLS {
-        let end = serve(rt, alloc, talk, PIECE, Some(Fault { part, call }))?;
+        let end = serve(rt, alloc, talk, CUT, Some(Fault { part, call }))?;
         if whole(alloc, &end)?.as_str() == unhurt_shown.as_str() {
             return Ok(());
         }
@@ -102,19 +111,52 @@ fn add_faults<R: Wait>(
     Ok(())
 }
 
+/// So many copies of what was written, one behind another, in words.
+fn copies(alloc: Global, written: &[u8], times: usize) -> Result<String> {
+    let mut copied = Vec::with_capacity(alloc, written.len().saturating_mul(times))?;
+    for _copy in 0..times {
+        copied.extend_from_slice(written)?;
+    }
+    let bytes = copied.len();
+    Ok(format!(in alloc; "copied {times} times: {bytes} bytes\n")?)
+}
+
+/// The client of a block.
+fn client_of(kind: Kind) -> Client
+    ensures { 1 ≤ result.piece }
+{
+    match kind {
+        Kind::Pieces(piece) if piece > 0 => Client { piece, room: ROOM },
+        Kind::Room(room) => Client {
+            piece: WHOLE.piece,
+            room,
+        },
+        _ => WHOLE,
+    }
+}
+
 /// What a block shows.
 pub(crate) fn shown<R: Wait>(rt: &R, alloc: Global, block: &str) -> Result<String> {
     let (heading, lines) = block.split_once('\n').unwrap_or((block, ""));
     let talk = Talk::of(alloc, lines)?;
-    let mut shown = whole(alloc, &serve(rt, alloc, &talk, WHOLE, None)?)?;
-    if heading.starts_with("cuts: ") {
-        let alike = cuts(rt, alloc, &talk, shown.as_str())?;
-        shown.push_str(alike.as_str())?;
-    }
-    if heading.starts_with("faults: ") {
-        add_faults(rt, alloc, &talk, Part::Link, &mut shown)?;
-        add_faults(rt, alloc, &talk, Part::Clock, &mut shown)?;
-        add_faults(rt, alloc, &talk, Part::Entropy, &mut shown)?;
+    let kind = Kind::of(heading);
+    let end = serve(rt, alloc, &talk, client_of(kind), None)?;
+    let mut shown = whole(alloc, &end)?;
+    match kind {
+        Kind::Cuts => {
+            let alike = cuts(rt, alloc, &talk, shown.as_str())?;
+            shown.push_str(alike.as_str())?;
+        }
+        Kind::Faults => {
+            add_faults(rt, alloc, &talk, Part::Link, &mut shown)?;
+            add_faults(rt, alloc, &talk, Part::Clock, &mut shown)?;
+            add_faults(rt, alloc, &talk, Part::Entropy, &mut shown)?;
+        }
+        Kind::Copies(times) => {
+            let copied = copies(alloc, end.served.link().written(), times)?;
+            shown.push_str(copied.as_str())?;
+        }
+        _ => {}
     }
     Ok(shown)
 }

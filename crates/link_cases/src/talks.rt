@@ -2,6 +2,39 @@
 
 use std::alloc::{AllocError, Global};
 
+/// What is shown of a block besides what comes of it, or how much is sent and taken in it.
+#[derive(Clone, Copy, Debug, PartialEq, Eq)]
+pub(crate) enum Kind {
+    Plain,
+    /// The same in pieces of every size.
+    Cuts,
+    /// The same with each call failing in turn.
+    Faults,
+    /// Bytes come and are taken in pieces of that size.
+    Pieces(usize),
+    /// That many bytes are taken.
+    Room(usize),
+    /// What was written is copied that many times.
+    Copies(usize),
+}
+
+impl Kind {
+    /// The kind of a block with that heading.
+    pub fn of(heading: &str) -> Kind {
+        let name = heading.split_once(':').unwrap_or((heading, "")).0;
+        let (word, number) = name.split_once(' ').unwrap_or((name, ""));
+        let number = number.parse::<usize>();
+        match (word, number) {
+            ("cuts", Err(_)) => Kind::Cuts,
+            ("faults", Err(_)) => Kind::Faults,
+            ("pieces", Ok(size)) => Kind::Pieces(size.max(1)),
+            ("room", Ok(size)) => Kind::Room(size),
+            ("copies", Ok(times)) => Kind::Copies(times),
+            _ => Kind::Plain,
+        }
+    }
+}
+
 /// The script of a site, and the bytes that a client sends.
 #[derive(Drop)]
 pub(crate) struct Talk {

@@ -25,12 +25,13 @@ pub record Got (before now : Line) (rest more : List ℕ) (n : ℕ) : Type 0 whe
   pub ended : n ≡ 0 → IsAtEnd now.left × (now.ends ≡ one_more before.ends)
   pub ends : 0 < n → now.ends ≡ before.ends
 
--- Reads added bytes behind these.
+-- Reads added bytes behind these, and didn't make too many of them.
 pub record Reads (before now : Line) (rest more : List ℕ) : Type 0 where
   pub bytes : List ℕ
   pub grows : more ≡ rest ++ bytes
   pub read : before.left ≡ prepend_known bytes now.left
   pub written : now.written ≡ before.written
+  pub few : length rest ≤ 81920 → length more ≤ 81920
 
 -- No call failed, and no read met the end.
 abbrev pub IsQuiet : Line → Line → Type 0

@@ -1,4 +1,4 @@
-use Rattle.std.proofs.Common.{◌∙◌, subst, List, ℕ}
+use Rattle.std.proofs.Common.{◌∙◌, subst, List, ℕ, inr}
 use Rattle.outside_serving.specs.Links.{Put}
 use Rattle.conversation.specs.inner.Hearing.{Stuck}
 use Rattle.conversation.proofs.Ending.{clock_failed, is_among, said_bad, stuck_bad, wanted_here}
@@ -8,7 +8,7 @@ pub fixed_page-requires-clause-status : goal.fixed_page-requires-clause-status
 fixed_page-requires-clause-status g c = is_among _ c.requires
 
 pub returns-in_default : goal.returns-in_default
-returns-in_default g c = λ before seat pool log rest k is l. clock_failed before seat _ _ pool log rest k _ l c.now.ensures.same c.in_default.ensures.cause
+returns-in_default g c = λ before seat pool log rest k is l. clock_failed before seat _ _ pool log rest k _ (inr (c.args.status, is)) l c.now.ensures.same c.in_default.ensures.cause
 
 pub returns-in_default-fixed_page : goal.returns-in_default-fixed_page
 returns-in_default-fixed_page g c = λ before seat pool log rest k is l. wanted_here before seat _ _ pool log rest k _ c.now.ensures.same c.in-Ok.ensures.cause
