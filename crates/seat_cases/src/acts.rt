@@ -3,7 +3,7 @@
 use anyhow::{Result, bail};
 use site_history::{Act, Author, Command};
 use std::alloc::Global;
-use trust_types::{Level, Secret, Text};
+use trust_types::{Caps, Level, Secret, Text};
 
 /// The act of an author, or of nobody.
 fn act(author: Option<Author>, command: Command) -> Result<Act> {
@@ -35,6 +35,10 @@ fn entry(alloc: Global, author: &str, words: &str) -> Result<Act> {
 
 /// The act that the words tell.
 pub(crate) fn act_of(alloc: Global, words: &str) -> Result<Act> {
+    if words == "the usual table" {
+        let caps = Caps::standard();
+        return act(None, Command::Table { caps });
+    }
     let Some((name, rest)) = words.split_once(' ') else {
         bail!("an act has a name and what is done")
     };

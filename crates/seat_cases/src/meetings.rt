@@ -19,7 +19,7 @@ use workers::{Gate, Go, Round, RoundStep, work_round};
 const MOST_LOOKS: u32 = 1_000_000;
 
 /// The number of the publication in a cache, 0 of none.
-fn number_in(cache: &Cache) -> u32 {
+pub(crate) fn number_in(cache: &Cache) -> u32 {
     match cache.publication() {
         Some(publication) => publication.number,
         None => 0,

@@ -3,8 +3,10 @@
 ghost use Rattle.std.specs.Prelude.{◌≡◌};
 
 use crate::acts::act_of;
+use crate::large::{Draws, take_large};
 use crate::loads::load;
 use crate::meetings::{levels_at_once, read_on, work_beside};
+use crate::rounds::rounds_beside;
 use crate::steps::take_step;
 use anyhow::{Result, bail};
 use outside::MemKeeper;
@@ -13,6 +15,7 @@ use site_history::Act;
 use std::alloc::{AllocError, Global};
 use std::sync::Wait;
 use std::thread::{Threads, join};
+use std::time::Clock;
 use trust_types::Caps;
 use turn_book::{Seat, Site};
 
@@ -48,7 +51,7 @@ impl Scene {
     }
 
     /// Takes a step: one of seat 1 in this thread, one of seat 2 in another.
-    fn take<R: Threads + Wait + Sync>(
+    fn take<R: Threads + Wait + Sync + Clock>(
         self,
         rt: &R,
         alloc: Global,
@@ -59,6 +62,12 @@ impl Scene {
         }
         if let Some(words) = step.strip_prefix("load ") {
             return self.load(rt, alloc, words);
+        }
+        if let Some(words) = step.strip_prefix("rounds beside ") {
+            return self.rounds(rt, alloc, words);
+        }
+        if let Some(words) = step.strip_prefix("large ") {
+            return self.large(rt, alloc, words);
         }
         if let Some(words) = step.strip_prefix("reader, while ") {
             return self.read(rt, alloc, act_of(alloc, words)?);
@@ -217,6 +226,60 @@ impl Scene {
         }
     }
 
+    /// A worker's rounds through seat 1, and certificates through seat 2.
+    fn rounds<R: Threads + Wait + Sync + Clock>(
+        self,
+        rt: &R,
+        alloc: Global,
+        words: &str,
+    ) -> Result<(Scene, String)> {
+        let Some((accounts, count)) = words.split_once(' ') else {
+            bail!("rounds have accounts and certificates")
+        };
+        let draws = Draws::of(2, accounts.parse()?);
+        let count = count.parse()?;
+        let Scene {
+            site,
+            first,
+            second,
+        } = self;
+        let (first, second, measured) = rounds_beside(
+            rt, alloc, &site, first, second, draws, count,
+        );
+        let answer = measured.told(alloc)?;
+        Ok((
+            Scene {
+                site,
+                first,
+                second,
+            },
+            answer,
+        ))
+    }
+
+    /// A step through seat 1 of a site that is large.
+    fn large<R: Threads + Wait + Sync>(
+        self,
+        rt: &R,
+        alloc: Global,
+        step: &str,
+    ) -> Result<(Scene, String)> {
+        let Scene {
+            site,
+            mut first,
+            second,
+        } = self;
+        let answer = take_large(rt, alloc, &site, &mut first, step)?;
+        Ok((
+            Scene {
+                site,
+                first,
+                second,
+            },
+            answer,
+        ))
+    }
+
     /// Closes the site with seat 1.
     fn close(self, alloc: Global) -> Result<String, AllocError> {
         let Scene {
@@ -259,7 +322,7 @@ fn add_answer(shown: &mut String, step: &str, answer: &str) -> Result<(), AllocE
 }
 
 /// A scene with the answers to its steps.
-pub(crate) fn played<R: Threads + Wait + Sync>(
+pub(crate) fn played<R: Threads + Wait + Sync + Clock>(
     rt: &R,
     alloc: Global,
     text: &str,

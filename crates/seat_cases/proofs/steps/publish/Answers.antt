@@ -1,4 +1,3 @@
-use Rattle.std.proofs.Common.{sym, ap, subst}
 use Rattle.turn_book.proofs.Suits.{frozen_suits, suits_later}
 use Rattle.seat_cases.proofs.steps.publish.Goals as goal
 

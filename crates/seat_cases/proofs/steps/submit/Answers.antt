@@ -1,5 +1,4 @@
 use Rattle.site_history.specs.Answers.{IsReply, entry_of}
-use Rattle.turn_book.specs.Seats.{StartsWith}
 use Rattle.turn_book.proofs.Seats.{goes_on}
 use Rattle.seat_cases.proofs.steps.submit.Goals as goal
 
