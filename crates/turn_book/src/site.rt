@@ -273,6 +273,8 @@ impl<K: Keeper> Site<K> {
     {
         let low = seat.low;
         let mut book = self.take(rt, &mut seat.token, low);
+        // Kept until the turn has ended, so that nobody waits while it is dropped.
+        let _replaced = last_of(&book);
         match book.publish(low, candidate) {
             Ok(number) => {
                 let entries = self.show(&mut seat.token, book);
