@@ -1,6 +1,7 @@
 //! What two seats, or two threads, see of one another while one of them works.
 
 ghost use Rattle.std.specs.Prelude.{◌≡◌, None};
+ghost use Rattle.roster_cell.specs.Caches.{IsCached};
 
 use crate::steps::{publish, submit, told};
 use anyhow::Result;
@@ -23,6 +24,18 @@ pub(crate) fn number_in(cache: &Cache) -> u32 {
     match cache.publication() {
         Some(publication) => publication.number,
         None => 0,
+    }
+}
+
+/// The number of the publication that a reader is shown by one load, 0 of none and where it keeps another.
+fn number_shown<K: Keeper>(site: &Site<K>, reader: &mut Seat<K>, cache: &Cache) -> u32
+    requires site { reader.old.site ≡ site.now.table.shared.table_id }
+    requires cached { IsCached reader.old.seen cache.now }
+    ensures { reader.new.site ≡ reader.old.site }
+{
+    match latest(site, reader, cache) {
+        Ok(Some(publication)) => publication.number,
+        Ok(None) | Err(_) => 0,
     }
 }
 
@@ -52,7 +65,7 @@ pub(crate) fn read_on<K: Keeper, R: Wait>(
         Err(moved) => shown.push_str(&format!(in alloc; "{moved}")?)?,
     }
     refresh(rt, site, reader, &mut cache)?;
-    let held = number_in(&cache);
+    let held = number_shown(site, reader, &cache);
     let fetched = match site.fetch(rt, reader)? {
         Some(publication) => publication.number,
         None => 0,

@@ -17,60 +17,74 @@ use workers::{Gate, Go, Round, RoundStep, work_round};
 /// Microseconds between two certificates, so that many rounds pass meanwhile.
 const PAUSE: u64 = 100;
 
-/// A gate that never stops a round, and notes how long the slowest freeze took, the wait for the turn included.
-#[derive(Drop)]
-struct FreezeWatch<'c, C: Clock> {
-    clock: &'c C,
-    began: Option<Instant>,
-    slowest: Duration,
+/// How long the slowest freeze and the slowest publishing of a worker's rounds took, the waits for the turn included.
+#[derive(Clone, Copy, Drop)]
+struct Slowest {
+    freeze: Duration,
+    publishing: Duration,
 }
 
-impl<C: Clock> FreezeWatch<'_, C> {
-    fn note(&mut self) {
+/// A gate that never stops a round, and notes how long its steps took.
+#[derive(Drop)]
+struct Watch<'c, C: Clock> {
+    clock: &'c C,
+    began: Option<Instant>,
+    slowest: Slowest,
+}
+
+impl<C: Clock> Watch<'_, C> {
+    fn begin(&mut self) {
+        self.began = Instant::now(self.clock).ok();
+    }
+
+    /// How long it is since a step began.
+    fn passed(&self) -> Duration {
         let Some(began) = self.began else {
-            return;
+            return Duration::from_secs(0);
         };
-        if let Ok(took) = began.elapsed(self.clock) {
-            self.slowest = self.slowest.max(took);
-        }
+        began.elapsed(self.clock).unwrap_or(Duration::from_secs(0))
     }
 }
 
-impl<C: Clock> Gate for FreezeWatch<'_, C> {
+impl<C: Clock> Gate for Watch<'_, C> {
     ghost stops = { λ _. 0 };
 
     ghost asked = { λ _. None };
 
     fn pass<R: Wait>(&mut self, _rt: &R, before: RoundStep) -> Go {
         match before {
-            RoundStep::Freeze => self.began = Instant::now(self.clock).ok(),
-            RoundStep::Solve => self.note(),
-            RoundStep::Publish => {}
+            RoundStep::Freeze | RoundStep::Publish => self.begin(),
+            RoundStep::Solve => self.slowest.freeze = self.slowest.freeze.max(self.passed()),
         }
         Go::On
     }
 }
 
-/// A worker's rounds, until they are to end. Gives how many published, and the slowest freeze.
+/// A worker's rounds, until they are to end. Gives how many published, and the slowest of their steps.
 fn work_on<R: Threads + Wait + Sync + Clock>(
     rt: &R,
     alloc: Global,
     site: &Site<MemKeeper>,
     mut seat: Seat<MemKeeper>,
     is_over: &Mutex<bool>,
-) -> (Seat<MemKeeper>, u32, Duration)
+) -> (Seat<MemKeeper>, u32, Slowest)
     requires { seat.site ≡ site.now.table.shared.table_id }
     ensures { result.0.site ≡ seat.site }
 {
-    let mut gate = FreezeWatch {
+    let none = Duration::from_secs(0);
+    let mut gate = Watch {
         clock: rt,
         began: None,
-        slowest: Duration::from_secs(0),
+        slowest: Slowest {
+            freeze: none,
+            publishing: none,
+        },
     };
     let mut published: u32 = 0;
     for _ in rt.forever() {
         if let Round::Published(_) = work_round(rt, alloc, site, &mut seat, &mut gate) {
             published = published.saturating_add(1);
+            gate.slowest.publishing = gate.slowest.publishing.max(gate.passed());
         }
         if *is_over.lock(rt) {
             break;
@@ -128,7 +142,7 @@ pub(crate) struct Measured {
     /// What each certificate took that was replied to, least first.
     certificates: Option<Vec<Duration>>,
     published: u32,
-    slowest_freeze: Duration,
+    slowest: Slowest,
 }
 
 impl Measured {
@@ -140,10 +154,11 @@ impl Measured {
         let middle = times.get(times.len() / 2).map_or(0, |time| time.as_nanos());
         let slowest = times.last().map_or(0, |time| time.as_nanos());
         format!(in alloc;
-            "{} replies, the middle one after {middle}, the slowest after {slowest}; {} publications, the slowest freeze {}",
+            "{} replies, the middle one after {middle}, the slowest after {slowest}; {} publications, the slowest freeze {}, the slowest publishing {}",
             times.len(),
             self.published,
-            self.slowest_freeze.as_nanos()
+            self.slowest.freeze.as_nanos(),
+            self.slowest.publishing.as_nanos()
         )
     }
 }
@@ -165,9 +180,9 @@ pub(crate) fn rounds_beside<R: Threads + Wait + Sync + Clock>(
 {
     let is_over = Mutex::new(false);
     let shared = &is_over;
-    let ((worker, published, slowest_freeze), (writer, certificates)) = join(
+    let ((worker, published, slowest), (writer, certificates)) = join(
         rt,
-        move || -> (Seat<MemKeeper>, u32, Duration)
+        move || -> (Seat<MemKeeper>, u32, Slowest)
             requires { worker.site ≡ site.now.table.shared.table_id }
             ensures { result.0.site ≡ worker.site }
         { work_on(rt, alloc, site, worker, shared) },
@@ -179,7 +194,7 @@ pub(crate) fn rounds_beside<R: Threads + Wait + Sync + Clock>(
     let measured = Measured {
         certificates,
         published,
-        slowest_freeze,
+        slowest,
     };
     (worker, writer, measured)
 }

@@ -30,9 +30,9 @@ use turn_book::{Seat, Site};
 /// return.
 ///
 /// Over the rows of the keeper it opens a site. It starts the plan's workers and jobs for links, writes `listening`, accepts as many links as the plan
-/// says, and hands them to the jobs through a queue with room for 64. Then it waits until all of them were served. A job that isn't started isn't replaced:
-/// where none for links is, the acceptor serves each link itself before the next accept, and where no worker is, it takes a round of work after each link.
-/// A worker that has nothing to do waits until a write to a link succeeds.
+/// says, and hands them to the jobs through a queue with room for 64. Then it waits until all of them were served and each job has ended. A job that isn't
+/// started isn't replaced: where none for links is, the acceptor serves each link itself before the next accept, and where no worker is, it takes a round of
+/// work after each link. A worker that has nothing to do waits until a write to a link succeeds.
 ///
 /// As many links were served as the port gave, whatever the status:
 ///
@@ -65,6 +65,8 @@ where
     P::Joined: Send + 'static,
     // As many links were served as the port gave.
     ensures tally { RoseBy (P.given port.old) (P.given port.new) result.tally }
+    // Each job that was started has ended.
+    ensures joined { T.running spawner.old ≡ 0 → T.running spawner.new ≡ 0 }
     ensures written { HasCause (W.faults sink.old) (W.faults sink.new) (is_write_fault result.status) }
     ensures ended { Serves K.rows K.faults plan.now.caps plan.now.accept keeper (around (P.faults port.old) (W.held sink.old) (W.faults sink.old)) (around (P.faults port.new) (W.held sink.new) (W.faults sink.new)) result.tally result.keeper result.status }
 {
@@ -109,6 +111,7 @@ fn host<
 where
     P::Joined: Send + 'static,
     ensures tally { RoseBy (P.given port.old) (P.given port.new) result.1 }
+    ensures joined { T.running spawner.old ≡ 0 → T.running spawner.new ≡ 0 }
     ensures written { HasCause (W.faults sink.old) (W.faults sink.new) (is_write_fault result.0) }
     ensures hosts { Hosts plan.now.accept (around (P.faults port.old) (W.held sink.old) (W.faults sink.old)) (around (P.faults port.new) (W.held sink.new) (W.faults sink.new)) result.1 result.0 }
 {
