@@ -1,3 +1,4 @@
+pub mod Admission
 pub mod Keeping
 mod RowsRead
 mod Reopening

@@ -1,3 +1,4 @@
+pub mod Admission
 pub mod Books
 pub mod Opening
 pub mod inner

@@ -19,6 +19,7 @@ ghost use Rattle.site_history.specs.declared.replies.Reply.TheVariants.{LoggedIn
 ghost use Rattle.site_history.specs.declared.replies.Refusal.TheVariants.{NoMemory as OutOfMemory};
 ghost use Rattle.site_state.specs.Weighed.{token_of, author_token};
 ghost use Rattle.site_state.specs.inner.Parts.{CanAdd};
+ghost use Rattle.site_core.specs.Admission.{IsAdmitted};
 ghost use Rattle.site_core.specs.Books.{IsSound, is_fault_answer};
 
 use crate::sizes::{session_token, texts_in};
@@ -134,6 +135,8 @@ impl<K: Keeper> Book<K> {
         // The reply is the one that the history gives, and its entry is added.
         ensures reply { IfOk result (λ reply. IsReply self.old.history act reply) }
         ensures entry { IfOk result (λ reply. self.new.history ≡ with_entry self.old.history (entry_of caller act reply moment)) }
+        // A post is admitted exactly where the level that its author holds in the last publication meets the policy.
+        ensures admitted { IfOk result (λ reply. IsAdmitted self.old.history act reply) }
 
         // A refusal has its cause, and adds nothing.
         ensures refused { IfErr result (λ refusal. Refuses self.old.history act refusal) }
