@@ -6,6 +6,7 @@ ghost use Rattle.site_history.specs.Answers.{Refuses, IsReply, entry_of, FreezeR
 ghost use Rattle.site_history.specs.Histories.{History, Entry, Published, Freeze, Publish, places, records, publications, published_of, last_published, with_entry};
 ghost use Rattle.site_history.specs.Legal.{IsLegal, IsFrozenOf, StandsFor, Suits};
 ghost use Rattle.site_history.specs.Views.{said, shown};
+ghost use Rattle.site_core.specs.Admission.{IsAdmitted};
 ghost use Rattle.site_core.specs.Books.{IsSound};
 ghost use Rattle.turn_book.specs.Seats.{Seated, Looks, Adds, Halves, StartsWith, mine, made_by, caller_of};
 ghost use Rattle.turn_book.specs.inner.Known.{Later, turning, seeing};
@@ -190,6 +191,7 @@ impl<K: Keeper> Site<K> {
         requires site { seat.old.site ≡ self.now.table.shared.table_id }
         requires moment { IsMoment moment }
         ensures reply { IfOk result (λ reply. (before : History) × IsReply before act reply × Adds seat.old before (entry_of seat.old.low act reply moment) seat.new) }
+        ensures admitted { IfOk result (λ reply. (before : History) × IsAdmitted before act reply × Adds seat.old before (entry_of seat.old.low act reply moment) seat.new) }
         ensures refused { IfErr result (λ refusal. Refuses seat.new.seen act refusal) }
         ensures same { OnErr result (Looks seat.old seat.new) }
     {

@@ -35,3 +35,9 @@ returns-in-Ok-clause-reply g c =
       subst (λ (s : Seated). Adds s before (entry_of s.low c.args.act c.in-Ok.reply c.args.moment) after) c.seat.view_is
           (adds_seat _ _ _ _ _ _ _ v before next (entry_of c.seat.inside.low c.args.act c.in-Ok.reply c.args.moment) (c.show-entries.ensures.site.0 ∙ c.take-book.ensures.site.0) (c.show-entries.ensures.site.1 ∙ c.take-book.ensures.site.1) is inv.0 c.take-book.ensures.later c.in-Ok.ensures.entry (entry_caller c.seat.inside.low c.args.act c.in-Ok.reply c.args.moment ∙ inv.0) c.show-entries.ensures.legal),
     )
+
+pub returns-in-Ok-clause-admitted : goal.returns-in-Ok-clause-admitted
+unfolding returns-in-Ok-clause-reply
+returns-in-Ok-clause-admitted g c =
+    let found = returns-in-Ok-clause-reply g c in
+    (c.take-book.result.history, c.in-Ok.ensures.admitted, found.2)
