@@ -4,7 +4,7 @@ ghost use Rattle.outside.specs.KeptRows.{AppendsRow, GivesNone, is_failed};
 ghost use Rattle.keeper_sqlite.specs.declared.keeper.Either.TheVariants.{Unopened};
 
 use crate::ahead::{Ahead, body_behind};
-use crate::database::{fault_of, insert, make_table, select_behind};
+use crate::database::{fault_of, hold, insert, kept_of, make_table, select_behind};
 use outside::{Fetched, KeepFault, Keeper};
 use sqlite::{Connection, File, FileStore, MemStore};
 use std::alloc::{AllocError, Global};
@@ -104,8 +104,8 @@ impl SqliteKeeper {
         ensures unopened { (fault : KeepFault) → self.old.database ≡ Unopened fault → result ≡ Err fault }
     {
         match &mut self.database {
-            Either::InMemory(database) => insert(database, row),
-            Either::InFile(database) => insert(database, row),
+            Either::InMemory(database) => kept_of(insert(database, row)),
+            Either::InFile(database) => kept_of(insert(database, row)),
             Either::Unopened(fault) => Err(*fault),
         }
     }
@@ -115,14 +115,13 @@ impl SqliteKeeper {
         ensures same { self.new.faults ≡ self.old.faults }
         ensures unopened { (fault : KeepFault) → self.old.database ≡ Unopened fault → result ≡ Err fault }
     {
-        let rows = match &mut self.database {
+        let answer = match &mut self.database {
             Either::Unopened(fault) => return Err(*fault),
             _ if self.ahead.row(n).is_some() => return Ok(()),
-            Either::InMemory(database) => select_behind(database, last)?,
-            Either::InFile(database) => select_behind(database, last)?,
+            Either::InMemory(database) => select_behind(database, last),
+            Either::InFile(database) => select_behind(database, last),
         };
-        self.ahead = Ahead::of(n, rows);
-        Ok(())
+        hold(&mut self.ahead, n, answer)
     }
 
     fn find(&mut self, n: u64, out: &mut Vec<u8>) -> Result<Fetched, KeepFault>
