@@ -10,10 +10,13 @@ use std::sync::atomic::{AtomicU64, Ordering};
 use std::sync::{Arc, Wait};
 use std::thread::yield_now;
 
-const REQUEST: &[u8] = b"GET /roster/Master HTTP/1.1\r\nHost: x\r\n\r\n";
+const ROSTER: &[u8] = b"GET /roster/Master HTTP/1.1\r\nHost: x\r\n\r\n";
+
+const JOIN: &[u8] =
+    b"POST /join HTTP/1.1\r\nHost: x\r\nContent-Length: 20\r\n\r\nname=mia&password=pw";
 
 /// How often a client looks again before it gives up.
-const MOST_LOOKS: u32 = 10_000_000;
+const MOST_LOOKS: u32 = 1_000_000;
 
 /// How many turns a client leaves to others before it asks again.
 const PAUSE: u32 = 1_000;
@@ -26,8 +29,13 @@ pub(crate) struct Seen {
     /// How often the first client was answered, and how often the second.
     pub first: AtomicU64,
     pub second: AtomicU64,
-    /// How often a publication was shown.
+    /// How many clients had a response of status 200.
+    pub answered: AtomicU64,
+    /// How many clients waited for another in vain.
+    pub in_vain: AtomicU64,
+    /// How often the publication of the site's rows was shown, and how often the one with the client that joined.
     pub shown: AtomicU64,
+    pub shown_later: AtomicU64,
 }
 
 impl Seen {
@@ -36,7 +44,20 @@ impl Seen {
             written: AtomicU64::new(0),
             first: AtomicU64::new(0),
             second: AtomicU64::new(0),
+            answered: AtomicU64::new(0),
+            in_vain: AtomicU64::new(0),
             shown: AtomicU64::new(0),
+            shown_later: AtomicU64::new(0),
+        }
+    }
+
+    /// Notes which publication a response shows.
+    fn note(&self, response: &str) {
+        if response.contains("<p>publication 1 revision 4</p>") {
+            self.shown.fetch_add(1, Ordering::SeqCst);
+        }
+        if response.contains("<p>publication 2 revision 5</p>") {
+            self.shown_later.fetch_add(1, Ordering::SeqCst);
         }
     }
 }
@@ -48,8 +69,10 @@ pub(crate) enum Way {
     First,
     /// It asks once, and then waits until the first client was answered.
     Second,
-    /// It asks until it is shown a publication, at most so often.
+    /// It asks until it is shown the publication of the site's rows, at most so often.
     Asks(u32),
+    /// It asks so too, then it joins, and asks until it is shown a publication with its account.
+    Joins(u32),
 }
 
 /// A client that asks for a roster.
@@ -57,6 +80,8 @@ pub(crate) enum Way {
 pub(crate) struct Client {
     way: Way,
     asked: u32,
+    has_joined: bool,
+    is_answered: bool,
     seen: Arc<Seen, Global>,
     faults: Count,
     ends: Count,
@@ -67,6 +92,8 @@ impl Client {
         Client {
             way,
             asked: 0,
+            has_joined: false,
+            is_answered: false,
             seen,
             faults: Count::zero(),
             ends: Count::zero(),
@@ -78,7 +105,28 @@ impl Client {
         match self.way {
             Way::First | Way::Second => self.asked == 0,
             Way::Asks(most) => self.asked < most && self.seen.shown.load(Ordering::SeqCst) == 0,
+            Way::Joins(most) => {
+                self.asked < most && self.seen.shown_later.load(Ordering::SeqCst) == 0
+            }
         }
+    }
+
+    /// Whether it joins now.
+    fn joins(&self) -> bool {
+        match self.way {
+            Way::Joins(_) => !self.has_joined && self.seen.shown.load(Ordering::SeqCst) > 0,
+            _ => false,
+        }
+    }
+
+    /// What it asks for next.
+    fn request(&mut self) -> &'static [u8] {
+        if self.joins() {
+            self.has_joined = true;
+            return JOIN;
+        }
+        self.asked = self.asked.saturating_add(1);
+        ROSTER
     }
 
     /// Whether the other client was answered.
@@ -86,7 +134,7 @@ impl Client {
         match self.way {
             Way::First => self.seen.second.load(Ordering::SeqCst) > 0,
             Way::Second => self.seen.first.load(Ordering::SeqCst) > 0,
-            Way::Asks(_) => true,
+            Way::Asks(_) | Way::Joins(_) => true,
         }
     }
 
@@ -100,13 +148,22 @@ impl Client {
         }
         false
     }
-}
 
-/// Whether a response shows a publication.
-fn shows_publication(piece: &[u8]) -> bool {
-    match str::from_utf8(piece) {
-        Ok(text) => !text.contains("no publication"),
-        Err(_) => false,
+    /// Notes its first response of status 200.
+    fn note_status(&mut self, response: &str) {
+        if response.starts_with("HTTP/1.1 200 ") && !self.is_answered {
+            self.is_answered = true;
+            self.seen.answered.fetch_add(1, Ordering::SeqCst);
+        }
+    }
+
+    /// Notes that it was answered, for whoever waits for that.
+    fn note_answer(&self) {
+        match self.way {
+            Way::First => self.seen.first.fetch_add(1, Ordering::SeqCst),
+            Way::Second => self.seen.second.fetch_add(1, Ordering::SeqCst),
+            Way::Asks(_) | Way::Joins(_) => 0,
+        };
     }
 }
 
@@ -118,29 +175,26 @@ impl Link for Client {
             for _ in 0..PAUSE {
                 yield_now();
             }
-            self.asked = self.asked.saturating_add(1);
-            let n = REQUEST.len().min(into.len());
-            into[..n].copy_from_slice(&REQUEST[..n]);
+            let request = self.request();
+            let n = request.len().min(into.len());
+            into[..n].copy_from_slice(&request[..n]);
             return Ok(n);
         }
         if self.waits() {
             self.ends.rise();
             Ok(0)
         } else {
+            self.seen.in_vain.fetch_add(1, Ordering::SeqCst);
             self.faults.rise();
             Err(Failed)
         }
     }
 
     fn write<R: Wait>(&mut self, _rt: &R, piece: &[u8]) -> Result<usize, Failed> {
-        match self.way {
-            Way::First => self.seen.first.fetch_add(1, Ordering::SeqCst),
-            Way::Second => self.seen.second.fetch_add(1, Ordering::SeqCst),
-            Way::Asks(_) => self
-                .seen
-                .shown
-                .fetch_add(u64::from(shows_publication(piece)), Ordering::SeqCst),
-        };
+        let response = str::from_utf8(piece).unwrap_or("");
+        self.seen.note(response);
+        self.note_status(response);
+        self.note_answer();
         Ok(piece.len())
     }
 }
