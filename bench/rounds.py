@@ -9,7 +9,7 @@ whom four are seeds, over the usual table. Then it does one of these, and what a
 - 100,000,000 looks whether a cache holds the last publication. The aim is under 100 nanoseconds each;
 - 5 solves of the site's graph at three grades, one grade after another, and 5 with all grades at once. On four processors the aim is at most 0.6 of the time;
 - 10,000 certificates, one after another with a pause before each, while rounds of a worker follow each other in another thread. The program says itself
-  how long the middle one and the slowest took, and the slowest freeze and publishing of the rounds; the aim is that no certificate waits longer than one freeze.
+  how long the middle one and the slowest took, and the slowest freeze of the rounds; the aim is that no certificate waits longer than one freeze.
 
 The time is what passes. Nothing depends on these numbers. The program is built first where it has to be. Each runs so many times (3 where none is named), and
 the least time is shown.
@@ -58,11 +58,11 @@ def main():
         steps = [f"rounds beside {accounts} {TIMED}"]
         for _ in range(runs):
             run = run_once(PROGRAM, written(path, accounts, certificates, steps))
-            told = re.search(r"(\d+) replies, the middle one after (\d+), the slowest after (\d+); (\d+) publications, the slowest freeze (\d+), the slowest publishing (\d+)", run.output)
-            replies, middle, slowest, rounds, freeze, publishing = (int(number) for number in told.groups())
+            told = re.search(r"(\d+) replies, the middle one after (\d+), the slowest after (\d+); (\d+) publications, the slowest freeze (\d+)", run.output)
+            replies, middle, slowest, rounds, freeze = (int(number) for number in told.groups())
             print(
                 f"{replies:,} certificates beside {rounds} rounds: the middle one {middle / 1000:.1f} µs, "
-                f"the slowest {slowest / 1000:.0f} µs; the slowest freeze {freeze / 1000:.0f} µs, the slowest publishing {publishing / 1000:.0f} µs",
+                f"the slowest {slowest / 1000:.0f} µs; the slowest freeze {freeze / 1000:.0f} µs",
                 flush=True,
             )
 

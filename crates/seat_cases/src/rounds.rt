@@ -17,74 +17,60 @@ use workers::{Gate, Go, Round, RoundStep, work_round};
 /// Microseconds between two certificates, so that many rounds pass meanwhile.
 const PAUSE: u64 = 100;
 
-/// How long the slowest freeze and the slowest publishing of a worker's rounds took, the waits for the turn included.
-#[derive(Clone, Copy, Drop)]
-struct Slowest {
-    freeze: Duration,
-    publishing: Duration,
-}
-
-/// A gate that never stops a round, and notes how long its steps took.
+/// A gate that never stops a round, and notes how long the slowest freeze took, the wait for the turn included.
 #[derive(Drop)]
-struct Watch<'c, C: Clock> {
+struct FreezeWatch<'c, C: Clock> {
     clock: &'c C,
     began: Option<Instant>,
-    slowest: Slowest,
+    slowest: Duration,
 }
 
-impl<C: Clock> Watch<'_, C> {
-    fn begin(&mut self) {
-        self.began = Instant::now(self.clock).ok();
-    }
-
-    /// How long it is since a step began.
-    fn passed(&self) -> Duration {
+impl<C: Clock> FreezeWatch<'_, C> {
+    fn note(&mut self) {
         let Some(began) = self.began else {
-            return Duration::from_secs(0);
+            return;
         };
-        began.elapsed(self.clock).unwrap_or(Duration::from_secs(0))
+        if let Ok(took) = began.elapsed(self.clock) {
+            self.slowest = self.slowest.max(took);
+        }
     }
 }
 
-impl<C: Clock> Gate for Watch<'_, C> {
+impl<C: Clock> Gate for FreezeWatch<'_, C> {
     ghost stops = { λ _. 0 };
 
     ghost asked = { λ _. None };
 
     fn pass<R: Wait>(&mut self, _rt: &R, before: RoundStep) -> Go {
         match before {
-            RoundStep::Freeze | RoundStep::Publish => self.begin(),
-            RoundStep::Solve => self.slowest.freeze = self.slowest.freeze.max(self.passed()),
+            RoundStep::Freeze => self.began = Instant::now(self.clock).ok(),
+            RoundStep::Solve => self.note(),
+            RoundStep::Publish => {}
         }
         Go::On
     }
 }
 
-/// A worker's rounds, until they are to end. Gives how many published, and the slowest of their steps.
+/// A worker's rounds, until they are to end. Gives how many published, and the slowest freeze.
 fn work_on<R: Threads + Wait + Sync + Clock>(
     rt: &R,
     alloc: Global,
     site: &Site<MemKeeper>,
     mut seat: Seat<MemKeeper>,
     is_over: &Mutex<bool>,
-) -> (Seat<MemKeeper>, u32, Slowest)
+) -> (Seat<MemKeeper>, u32, Duration)
     requires { seat.site ≡ site.now.table.shared.table_id }
     ensures { result.0.site ≡ seat.site }
 {
-    let none = Duration::from_secs(0);
-    let mut gate = Watch {
+    let mut gate = FreezeWatch {
         clock: rt,
         began: None,
-        slowest: Slowest {
-            freeze: none,
-            publishing: none,
-        },
+        slowest: Duration::from_secs(0),
     };
     let mut published: u32 = 0;
     for _ in rt.forever() {
         if let Round::Published(_) = work_round(rt, alloc, site, &mut seat, &mut gate) {
             published = published.saturating_add(1);
-            gate.slowest.publishing = gate.slowest.publishing.max(gate.passed());
         }
         if *is_over.lock(rt) {
             break;
@@ -142,7 +128,7 @@ pub(crate) struct Measured {
     /// What each certificate took that was replied to, least first.
     certificates: Option<Vec<Duration>>,
     published: u32,
-    slowest: Slowest,
+    slowest_freeze: Duration,
 }
 
 impl Measured {
@@ -154,11 +140,10 @@ impl Measured {
         let middle = times.get(times.len() / 2).map_or(0, |time| time.as_nanos());
         let slowest = times.last().map_or(0, |time| time.as_nanos());
         format!(in alloc;
-            "{} replies, the middle one after {middle}, the slowest after {slowest}; {} publications, the slowest freeze {}, the slowest publishing {}",
+            "{} replies, the middle one after {middle}, the slowest after {slowest}; {} publications, the slowest freeze {}",
             times.len(),
             self.published,
-            self.slowest.freeze.as_nanos(),
-            self.slowest.publishing.as_nanos()
+            self.slowest_freeze.as_nanos()
         )
     }
 }
@@ -180,9 +165,9 @@ pub(crate) fn rounds_beside<R: Threads + Wait + Sync + Clock>(
 {
     let is_over = Mutex::new(false);
     let shared = &is_over;
-    let ((worker, published, slowest), (writer, certificates)) = join(
+    let ((worker, published, slowest_freeze), (writer, certificates)) = join(
         rt,
-        move || -> (Seat<MemKeeper>, u32, Slowest)
+        move || -> (Seat<MemKeeper>, u32, Duration)
             requires { worker.site ≡ site.now.table.shared.table_id }
             ensures { result.0.site ≡ worker.site }
         { work_on(rt, alloc, site, worker, shared) },
@@ -194,7 +179,7 @@ pub(crate) fn rounds_beside<R: Threads + Wait + Sync + Clock>(
     let measured = Measured {
         certificates,
         published,
-        slowest,
+        slowest_freeze,
     };
     (worker, writer, measured)
 }

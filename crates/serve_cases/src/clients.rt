@@ -1,6 +1,6 @@
 //! Clients of a server.
 
-ghost use Rattle.std.specs.Prelude.{None};
+ghost use Rattle.std.specs.Prelude.{None, ◌≡◌, ◌<◌, length};
 
 use outside::Failed;
 use outside_serving::{Count, Link};
@@ -16,7 +16,7 @@ const JOIN: &[u8] =
     b"POST /join HTTP/1.1\r\nHost: x\r\nContent-Length: 20\r\n\r\nname=mia&password=pw";
 
 /// How often a client looks again before it gives up.
-const MOST_LOOKS: u32 = 1_000_000;
+const MOST_LOOKS: u32 = 10_000_000;
 
 /// How many turns a client leaves to others before it asks again.
 const PAUSE: u32 = 1_000;
@@ -51,6 +51,11 @@ impl Seen {
         }
     }
 
+    /// Whether a publication with the client that joined was shown.
+    pub fn is_shown_later(&self) -> bool {
+        self.shown_later.load(Ordering::SeqCst) > 0
+    }
+
     /// Notes which publication a response shows.
     fn note(&self, response: &str) {
         if response.contains("<p>publication 1 revision 4</p>") {
@@ -73,6 +78,8 @@ pub(crate) enum Way {
     Asks(u32),
     /// It asks so too, then it joins, and asks until it is shown a publication with its account.
     Joins(u32),
+    /// It comes once such a publication was shown, and asks nothing.
+    Late,
 }
 
 /// A client that asks for a roster.
@@ -100,14 +107,23 @@ impl Client {
         }
     }
 
+    /// Waits until the client may come, or after too many looks.
+    pub fn comes(&self) {
+        for _ in 0..MOST_LOOKS {
+            match self.way {
+                Way::Late if !self.seen.is_shown_later() => yield_now(),
+                _ => return,
+            }
+        }
+    }
+
     /// Whether it asks again.
     fn asks(&self) -> bool {
         match self.way {
             Way::First | Way::Second => self.asked == 0,
             Way::Asks(most) => self.asked < most && self.seen.shown.load(Ordering::SeqCst) == 0,
-            Way::Joins(most) => {
-                self.asked < most && self.seen.shown_later.load(Ordering::SeqCst) == 0
-            }
+            Way::Joins(most) => self.asked < most && !self.seen.is_shown_later(),
+            Way::Late => false,
         }
     }
 
@@ -120,7 +136,10 @@ impl Client {
     }
 
     /// What it asks for next.
-    fn request(&mut self) -> &'static [u8] {
+    fn request(&mut self) -> &'static [u8]
+        ensures same { (self.new.faults ≡ self.old.faults) × (self.new.ends ≡ self.old.ends) }
+        ensures some { 0 < length result.now }
+    {
         if self.joins() {
             self.has_joined = true;
             return JOIN;
@@ -134,7 +153,7 @@ impl Client {
         match self.way {
             Way::First => self.seen.second.load(Ordering::SeqCst) > 0,
             Way::Second => self.seen.first.load(Ordering::SeqCst) > 0,
-            Way::Asks(_) | Way::Joins(_) => true,
+            Way::Asks(_) | Way::Joins(_) | Way::Late => true,
         }
     }
 
@@ -149,20 +168,25 @@ impl Client {
         false
     }
 
-    /// Notes its first response of status 200.
-    fn note_status(&mut self, response: &str) {
-        if response.starts_with("HTTP/1.1 200 ") && !self.is_answered {
+    /// Whether this is its first response of status 200.
+    fn is_first(&self, response: &str) -> bool {
+        response.starts_with("HTTP/1.1 200 ") && !self.is_answered
+    }
+
+    /// Notes a response, also for whoever waits for it.
+    fn note(&mut self, piece: &[u8])
+        ensures { (self.new.faults ≡ self.old.faults) × (self.new.ends ≡ self.old.ends) }
+    {
+        let response = str::from_utf8(piece).unwrap_or("");
+        if self.is_first(response) {
             self.is_answered = true;
             self.seen.answered.fetch_add(1, Ordering::SeqCst);
         }
-    }
-
-    /// Notes that it was answered, for whoever waits for that.
-    fn note_answer(&self) {
+        self.seen.note(response);
         match self.way {
             Way::First => self.seen.first.fetch_add(1, Ordering::SeqCst),
             Way::Second => self.seen.second.fetch_add(1, Ordering::SeqCst),
-            Way::Asks(_) | Way::Joins(_) => 0,
+            Way::Asks(_) | Way::Joins(_) | Way::Late => 0,
         };
     }
 }
@@ -191,10 +215,7 @@ impl Link for Client {
     }
 
     fn write<R: Wait>(&mut self, _rt: &R, piece: &[u8]) -> Result<usize, Failed> {
-        let response = str::from_utf8(piece).unwrap_or("");
-        self.seen.note(response);
-        self.note_status(response);
-        self.note_answer();
+        self.note(piece);
         Ok(piece.len())
     }
 }

@@ -13,7 +13,7 @@ use std::sync::{Arc, Wait};
 /// How many bytes the first line of a server has.
 const FIRST_LINE: u64 = 10;
 
-/// A port that gives clients, in order, once the first line is written. It fails before, and where none is left.
+/// A port that gives clients, in order and each once it comes, after the first line is written. It fails before, and where none is left.
 #[derive(Drop)]
 pub(crate) struct Door {
     pub clients: VecDeque<Client>,
@@ -29,6 +29,7 @@ impl Door {
         if self.seen.written.load(Ordering::SeqCst) < FIRST_LINE {
             return None;
         }
+        self.clients.front()?.comes();
         self.clients.pop_front()
     }
 }

@@ -40,18 +40,13 @@ fn asks<R: Wait + Threads + Copy + Send + Sync + 'static>(rt: &R, alloc: Global)
     )?)
 }
 
-/// A client that joins and then waits for a worker. A server that wakes no worker shows it no publication with its account.
+/// A client that joins and then waits for a worker, and one that comes after. A server that wakes no worker shows no publication with the first one's account.
 fn joins<R: Wait + Threads + Copy + Send + Sync + 'static>(
     rt: &R,
     alloc: Global,
 ) -> Result<String> {
-    let joins = run(
-        rt,
-        alloc,
-        &[(Way::Joins(9000), 1)],
-        1,
-        &mut ThreadSpawner::new(alloc),
-    )?;
+    let ways = [(Way::Joins(9000), 1), (Way::Late, 1)];
+    let joins = run(rt, alloc, &ways, 2, &mut ThreadSpawner::new(alloc))?;
     Ok(format!(in alloc;
         "{}; publication 2 revision 5 shown: {}\n{}",
         joins.ended, joins.shown_later, joins.written
